@@ -16,6 +16,6 @@ pub use formats::{Entry, TraceFormat, read_entry};
 pub use heaptrack::read_heaptrack;
 pub use ltrace::read_ltrace;
 pub use mtrace::read_mtrace;
-pub use reading::{Progress, Reading};
+pub use reading::{Progress, Reading, SampleReason};
 pub use report::Report;
 pub use trace::read_event;

@@ -1,6 +1,6 @@
 //! How a trace is read.
 ghost use Rattle.std.specs.Prelude.{◌≡◌};
-ghost use Rattle.cc_formats.specs.Reading.{is_due, is_over, progress_after};
+ghost use Rattle.cc_formats.specs.Reading.{is_due, is_over, is_regular, progress_after, reason_of};
 
 use crate::formats::TraceFormat;
 
@@ -13,6 +13,17 @@ pub struct Reading {
     pub is_strict: bool,
     /// The number of events from a sample of the series to the next, or 0 if there is no series.
     pub each: u64,
+}
+
+/// Why a series has a sample.
+#[derive(Clone, Copy)]
+pub enum SampleReason {
+    /// The number of the event is a multiple of the given one.
+    Regular,
+    /// The event led to a sweep, and its number is not such a multiple.
+    Swept,
+    /// The trace ends, and its last event has no sample.
+    Last,
 }
 
 /// Whether lines are taken.
@@ -55,6 +66,24 @@ impl Reading {
     pub fn is_due(self, event: u64, sweeps: u64, sweeps_now: u64) -> bool
         ensures { result ≡ is_due self event sweeps sweeps_now }
     {
-        self.each != 0 && (event % self.each == 0 || sweeps_now != sweeps)
+        self.is_regular(event) || self.each != 0 && sweeps_now != sweeps
+    }
+
+    /// Returns the reason of the sample of the event of this number, if it has one.
+    pub fn reason_of(self, event: u64) -> SampleReason
+        ensures { result ≡ reason_of self event }
+    {
+        if self.is_regular(event) {
+            SampleReason::Regular
+        } else {
+            SampleReason::Swept
+        }
+    }
+
+    /// Returns whether the event of this number has a sample for its number.
+    fn is_regular(self, event: u64) -> bool
+        ensures { result ≡ is_regular self event }
+    {
+        self.each != 0 && event % self.each == 0
     }
 }

@@ -12,7 +12,7 @@ use Rattle.cc_formats.specs.declared.reading.Progress.{Progress}
 use Rattle.cc_formats.specs.declared.reading.Progress.TheVariants.{Running, Stopped, OutOfMemory}
 use Rattle.cc_formats.specs.declared.reading.Reading.{Reading}
 use Rattle.cc_formats.specs.Formats.{has_pointers}
-use Rattle.cc_formats.specs.Reading.{is_due, progress_after}
+use Rattle.cc_formats.specs.Reading.{is_due, progress_after, reason_of}
 use Rattle.cc_heap.specs.declared.outcome.Outcome.{Outcome}
 use Rattle.cc_heap.specs.declared.settings.Settings.{Settings}
 use Rattle.cc_heap.specs.declared.totals.Totals.{Totals}
@@ -59,9 +59,10 @@ figures_same state run alike =
     λ i. record { counts = state.counts; totals = totals i; usage = usage i; has_pointers = has_pointers state.reading.format }
 
 sample_same : (state : ReplayState) (run : RunState) → AreAlikeRuns state.run run
-    → sample_text state.is_sampled (re run state) ≡ sample_text state.is_sampled state
+    → sample_text state.is_sampled (reason_of state.reading state.counts.events) (re run state)
+    ≡ sample_text state.is_sampled (reason_of state.reading state.counts.events) state
 sample_same state run alike = ap (λ (figures : Figures).
-    if state.is_sampled then values_line (sample_rows state.time figures) else []) (figures_same state run alike)
+    if state.is_sampled then values_line (sample_rows (reason_of state.reading state.counts.events) state.time figures) else []) (figures_same state run alike)
 
 -- what a line or the trailing bytes lead to
 record IsOneAnswer (text told : List ℕ) (is_error is_told : Bool) (new another : ReplayState) : Type 0 where
@@ -118,7 +119,7 @@ takes_event old new another run event text told is_error is_told once alike firs
     let alike_now : AreAlikeRuns new.run second.run = subst (λ (r : RunState). AreAlikeRuns r second.run) (sym run_is) one.alike in
     record {
       same_text =
-          second.text_is ∙ ap (λ (s : ReplayState). sample_text s.is_sampled s) moved ∙ sample_same new second.run alike_now
+          second.text_is ∙ ap (λ (s : ReplayState). sample_text s.is_sampled (reason_of s.reading s.counts.events) s) moved ∙ sample_same new second.run alike_now
           ∙ sym first.text_is;
       same_error = second.error_is ∙ ap is_refused one.same ∙ sym first.error_is;
       order = record {

@@ -1,6 +1,7 @@
 -- The strings that name a policy are read as it, and no other string is read.
 use Rattle.std.proofs.Common.{◌≡◌, ℕ, ◌+◌, ◌-◌, ◌≤◌, ◌^◌, ◌&&◌, if◌then◌else◌, Bool, true, false, nat_eq, nat_le, nat_lt, List, [], ◌∷◌, ◌++◌, take, drop, length, codes, Option, Some, None}
-use Rattle.std.proofs.Common.{Result, Ok, Err, refl, sym, ◌∙◌, ap, append-nil, arith, subst, inl, inr}
+use Rattle.std.specs.Prelude.{decimal}
+use Rattle.std.proofs.Common.{◌<◌, Result, Ok, Err, refl, sym, ◌∙◌, ap, append-nil, arith, subst, inl, inr}
 use Rattle.std.proofs.Math.Seq.{drop-append-add, drop-append_seam, take-append_seam}
 use Rattle.std.proofs.lemmas.Bool.{eqb-true}
 use Rattle.std.proofs.lemmas.List.{length-append, take-append-drop}
@@ -15,7 +16,8 @@ use Rattle.cc_heap.specs.declared.policy.Policy.{Policy}
 use Rattle.cc_heap.specs.declared.policy.Policy.TheVariants.{Immediate, Never, Percent, Bytes, Frees, Trace}
 use Rattle.cc_heap.specs.declared.policy.Share.{Share}
 use Rattle.cc_heap.specs.declared.policy.Share.TheVariants.{Held, Live, High}
-use Rattle.cc_replay.specs.PolicyText.{HasNumber, IsPolicyText, after, as_percent, before, has_prefix, has_suffix, in_range, numbered_in, of_percent, percent_in, policy_in, with_number}
+use Rattle.cc_replay.specs.PolicyText.{HasNumber, IsPolicyText, after, as_percent, before, has_prefix, has_suffix, in_range, numbered_in, of_percent, percent_in, policy_in, policy_text, with_number}
+use Rattle.cc_values.proofs.ReadBackLemmas.{decimal-read}
 
 -- ---- the end of a string
 
@@ -263,3 +265,16 @@ read_texts text policy read = first (bytes_eq text (codes "none")) refl read whe
       → IsPolicyText policy text
   first true is e = named policy Immediate text (codes "none") is e refl
   first false is e = second (bytes_eq text (codes "never")) refl e
+
+-- ---- the string of a policy names it
+
+pub bytes_named : (n : ℕ) → n < 2 ^ 64 → IsPolicyText (Bytes n) (policy_text (Bytes n))
+bytes_named n fits = record { digits = decimal n; whole = sym (append-nil (codes "bytes:" ++ decimal n)); is_number = decimal-read n (omega (arith, fits)) }
+
+pub frees_named : (n : ℕ) → n < 2 ^ 64 → IsPolicyText (Frees n) (policy_text (Frees n))
+frees_named n fits = record { digits = decimal n; whole = sym (append-nil (codes "frees:" ++ decimal n)); is_number = decimal-read n (omega (arith, fits)) }
+
+pub percentage_named : (n : ℕ) (share : Share) → n < 2 ^ 64 → IsPolicyText (Percent n share) (policy_text (Percent n share))
+percentage_named n Held fits = inl (record { digits = decimal n; whole = refl; is_number = decimal-read n (omega (arith, fits)) })
+percentage_named n Live fits = record { digits = decimal n; whole = refl; is_number = decimal-read n (omega (arith, fits)) }
+percentage_named n High fits = record { digits = decimal n; whole = refl; is_number = decimal-read n (omega (arith, fits)) }

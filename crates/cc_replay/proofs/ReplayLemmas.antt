@@ -11,7 +11,7 @@ use Rattle.cc_formats.specs.declared.reading.Progress.{Progress}
 use Rattle.cc_formats.specs.declared.reading.Reading.{Reading}
 use Rattle.cc_replay.specs.Counts.{with_event, with_failure, with_line, with_outcome}
 use Rattle.cc_heap.specs.Lost.{IsRunEvent, RunState}
-use Rattle.cc_formats.specs.Reading.{is_due, is_over, progress_after}
+use Rattle.cc_formats.specs.Reading.{is_due, is_over, progress_after, reason_of}
 use Rattle.cc_heap.specs.Outcomes.{is_refused}
 use Rattle.cc_replay.specs.Replay.{ReplayState, TakesLine, TakesRest, at_entry, replaying, sample_text, time_after}
 use Rattle.cc_replay.specs.Taking.{AppendsEntry, AppendsEvent, Refuses, TakesEntry, next_entry}
@@ -37,11 +37,11 @@ pub event_taken : (old : ReplayState) (event : Event) (outcome : Outcome) (run :
     → refused ≡ is_refused outcome
     → progress ≡ progress_after old.reading refused
     → sampled ≡ is_due old.reading counts.events old.run.heap.totals.sweeps run.heap.totals.sweeps
-    → out_now ≡ out ++ sample_text sampled (state_of run old.reading counts old.pending time progress sampled)
+    → out_now ≡ out ++ sample_text sampled (reason_of old.reading counts.events) (state_of run old.reading counts old.pending time progress sampled)
     → AppendsEvent replaying old event out out_now refused (state_of run old.reading counts old.pending time progress sampled)
 event_taken old event outcome run counts time progress sampled out out_now refused is_event counts_is time_is refused_is progress_is sampled_is out_is =
     record {
-      text = sample_text sampled (state_of run old.reading counts old.pending time progress sampled);
+      text = sample_text sampled (reason_of old.reading counts.events) (state_of run old.reading counts old.pending time progress sampled);
       out_is = out_is;
       takes = inl (record {
         outcome = outcome;

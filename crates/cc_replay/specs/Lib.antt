@@ -6,7 +6,6 @@ pub mod Summary
 pub mod SizeTable
 pub mod Taking
 pub mod Replay
-pub mod Summarizing
 pub mod Changes
 pub mod Operations
 pub mod Script

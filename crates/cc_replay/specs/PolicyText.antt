@@ -1,5 +1,5 @@
 -- The policy that a string names, or its error.
-use Rattle.std.specs.Prelude.{ℕ, Bool, ◌≡◌, ◌⊎◌, ◌-◌, ◌^◌, List, [], ◌++◌, take, drop, length, codes, nat_le, if◌then◌else◌, Some, Result, Ok, Err}
+use Rattle.std.specs.Prelude.{ℕ, Bool, ◌≡◌, ◌⊎◌, ◌-◌, ◌^◌, List, [], ◌++◌, take, drop, length, codes, decimal, nat_le, if◌then◌else◌, Some, Result, Ok, Err}
 use Rattle.std.specs.Str.{bytes_eq}
 use Rattle.cc_word.specs.declared.refusal.Refusal.{Refusal}
 use Rattle.cc_word.specs.declared.refusal.Refusal.TheVariants.{Syntax, OutOfRange}
@@ -80,6 +80,21 @@ IsPolicyText (Frees frees) text = HasNumber (codes "frees:") [] text frees
 IsPolicyText (Percent percent Held) text = HasNumber [] (codes "%") text percent ⊎ HasNumber [] (codes "%:held") text percent
 IsPolicyText (Percent percent Live) text = HasNumber [] (codes "%:live") text percent
 IsPolicyText (Percent percent High) text = HasNumber [] (codes "%:high") text percent
+
+-- The end of a percentage of these bytes.
+abbrev pub share_text : Share → List ℕ
+share_text Held = codes "%"
+share_text Live = codes "%:live"
+share_text High = codes "%:high"
+
+-- The shortest string that names the policy.
+abbrev pub policy_text : Policy → List ℕ
+policy_text Immediate = codes "none"
+policy_text Never = codes "never"
+policy_text Trace = codes "trace"
+policy_text (Bytes bytes) = codes "bytes:" ++ decimal bytes
+policy_text (Frees frees) = codes "frees:" ++ decimal frees
+policy_text (Percent percent share) = decimal percent ++ share_text share
 
 -- The policy, or `OutOfRange` if its number is too large: a percentage from 2^32, and others from 2^64.
 abbrev pub in_range : Policy → Result Policy Refusal

@@ -1,5 +1,5 @@
 -- A heap over a trace that takes its lines, and the output: the samples of a series.
-use Rattle.std.specs.Prelude.{◌≡◌, ◌⊎◌, ℕ, Bool, true, false, not, ◌&&◌, ◌==◌, List, [], ◌∷◌, ◌++◌, if◌then◌else◌, Option, Some, None, Result, Ok, Err}
+use Rattle.std.specs.Prelude.{◌≡◌, ◌⊎◌, ℕ, Bool, true, false, not, ◌&&◌, ◌==◌, List, [], ◌∷◌, if◌then◌else◌, Option, Some, None, Result, Ok}
 use Rattle.cc_word.specs.declared.refusal.Refusal.{Refusal}
 use Rattle.cc_replay.specs.declared.counts.Count.{Count}
 use Rattle.cc_replay.specs.declared.counts.Counts.{Counts}
@@ -11,13 +11,15 @@ use Rattle.cc_heap.specs.declared.outcome.Outcome.{Outcome}
 use Rattle.cc_formats.specs.declared.reading.Progress.{Progress}
 use Rattle.cc_formats.specs.declared.reading.Progress.TheVariants.{Running, OutOfMemory}
 use Rattle.cc_formats.specs.declared.reading.Reading.{Reading}
+use Rattle.cc_formats.specs.declared.reading.SampleReason.{SampleReason}
+use Rattle.cc_formats.specs.declared.reading.SampleReason.TheVariants.{Last}
 use Rattle.cc_replay.specs.declared.summary.Figures.{Figures}
 use Rattle.cc_heap.specs.Outcomes.{is_refused}
 use Rattle.cc_replay.specs.Counts.{with_event, with_failure, with_line, with_outcome, with_refusal}
 use Rattle.cc_formats.specs.Formats.{entry_in, has_pointers}
 use Rattle.cc_heap.specs.Lost.{IsRunEvent, RunState}
 use Rattle.cc_heap.specs.Memory.{IsSound, usage_of}
-use Rattle.cc_formats.specs.Reading.{is_due, progress_after}
+use Rattle.cc_formats.specs.Reading.{is_due, progress_after, reason_of}
 use Rattle.cc_replay.specs.Rows.{names_line, values_line}
 use Rattle.cc_replay.specs.Summary.{sample_rows}
 use Rattle.cc_replay.specs.Taking.{Taker, TakesLineIn, TakesRestIn}
@@ -86,11 +88,11 @@ time_after _ time = time
 
 -- The maximum number of bytes of a line of a series.
 abbrev pub most_sample : ℕ
-most_sample = 1301
+most_sample = 1401
 
--- The line of a sample, or nothing.
-abbrev pub sample_text : (is_sampled : Bool) → ReplayState → List ℕ
-sample_text is_sampled state = if is_sampled then values_line (sample_rows state.time (figures_of state)) else []
+-- The line of a sample for a reason, or nothing.
+abbrev pub sample_text : (is_sampled : Bool) → SampleReason → ReplayState → List ℕ
+sample_text is_sampled reason state = if is_sampled then values_line (sample_rows reason state.time (figures_of state)) else []
 
 -- TakesEvent holds if the event happens to the heap, the lost ids are noted, what comes of it is counted,
 -- and a sample is written if it is due.
@@ -106,7 +108,7 @@ pub record TakesEvent (old : ReplayState) (event : Event) (text : List ℕ) (is_
     is_sampled = is_due old.reading (with_event event old.counts).events old.run.heap.totals.sweeps run.heap.totals.sweeps;
   }
   pub error_is : is_error ≡ is_refused outcome
-  pub text_is : text ≡ sample_text new.is_sampled new
+  pub text_is : text ≡ sample_text new.is_sampled (reason_of new.reading new.counts.events) new
 
 -- RunsOut holds if memory ran out in an event: nothing is written, and no further line is taken.
 pub record RunsOut (old : ReplayState) (text : List ℕ) (is_error : Bool) (new : ReplayState) : Type 0 where
@@ -142,12 +144,12 @@ TakesRest old = TakesRestIn replaying old.progress old
 
 -- The header of the series: the names of its columns, or nothing if there is no series.
 abbrev pub series_header : ReplayState → List ℕ
-series_header state = if state.reading.each == 0 then [] else names_line (sample_rows 0 (figures_of state))
+series_header state = if state.reading.each == 0 then [] else names_line (sample_rows Last 0 (figures_of state))
 
 -- The last sample of the series: the sample of the end, if there was an event and the last has
 -- none.
 abbrev pub last_sample : ReplayState → List ℕ
-last_sample state = sample_text (not (state.reading.each == 0) && not state.is_sampled) state
+last_sample state = sample_text (not (state.reading.each == 0) && not state.is_sampled) Last state
 
 -- The events, after the event of a line, if the line is an event.
 abbrev pub event_before : Result (Option Event) Refusal → List Event → List Event

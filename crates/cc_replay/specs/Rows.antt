@@ -1,11 +1,14 @@
 -- The rows of a summary or of a series: names and values, and their text in each format.
-use Rattle.std.specs.Prelude.{ℕ, zero, suc, ◌*◌, ◌/◌, ◌%◌, ◌^◌, List, [], ◌∷◌, ◌++◌, codes, decimal, map, min}
+use Rattle.std.specs.Prelude.{ℕ, zero, suc, ◌*◌, ◌/◌, ◌%◌, ◌^◌, ◌==◌, List, [], ◌∷◌, ◌++◌, codes, decimal, map, min, if◌then◌else◌}
 use Rattle.cc_io.specs.Text.{with_line_feed}
+use Rattle.cc_formats.specs.declared.reading.SampleReason.{SampleReason}
+use Rattle.cc_formats.specs.declared.reading.SampleReason.TheVariants.{Regular, Swept, Last}
 use Rattle.cc_replay.specs.declared.table.Part.{Part}
 use Rattle.cc_replay.specs.declared.table.Part.TheVariants.{Line, Name, Quantity, Member, Heading, Cell}
 use Rattle.cc_replay.specs.declared.table.Row.{Row as RowValue}
 use Rattle.cc_replay.specs.declared.table.Value.{Value}
-use Rattle.cc_replay.specs.declared.table.Value.TheVariants.{Number, Percent}
+use Rattle.cc_replay.specs.declared.table.Value.TheVariants.{Number, Percent, Reason, Sweeping}
+use Rattle.cc_replay.specs.PolicyText.{policy_text}
 use Rattle.cc_replay.specs.declared.table.Format.{Format}
 use Rattle.cc_replay.specs.declared.table.Format.TheVariants.{Text, Csv, Json}
 
@@ -15,10 +18,25 @@ percent_text parts =
     decimal (parts / 10000) ++ codes "." ++ decimal (parts / 1000 % 10) ++ decimal (parts / 100 % 10)
     ++ decimal (parts / 10 % 10) ++ decimal (parts % 10)
 
+-- The word for the reason of a sample.
+abbrev pub reason_text : SampleReason → List ℕ
+reason_text Regular = codes "each"
+reason_text Swept = codes "sweep"
+reason_text Last = codes "end"
+
 -- The text of a value.
 unfoldable pub value_text : Value → List ℕ
 value_text (Number number) = decimal number
 value_text (Percent parts) = percent_text parts
+value_text (Reason reason) = reason_text reason
+value_text (Sweeping policy) = policy_text policy
+
+-- The text of a value in JSON: that of a word has quotation marks.
+unfoldable pub member_text : Value → List ℕ
+member_text (Number number) = decimal number
+member_text (Percent parts) = percent_text parts
+member_text (Reason reason) = codes "\"" ++ reason_text reason ++ codes "\""
+member_text (Sweeping policy) = codes "\"" ++ policy_text policy ++ codes "\""
 
 -- The part in ten-thousandths of a percent of the whole, rounded down, or 0 if the whole is 0. A
 -- part above 2^100 is treated as 2^100.
@@ -35,6 +53,14 @@ pub record Row : Type 0 where
 abbrev pub rows_of : List RowValue → List Row
 rows_of rows = map (λ row. record { name = row.name.now; value = row.value }) rows
 
+-- A byte of a name in a key of JSON: an underscore for a dot, since a dot selects a member in the languages that read JSON.
+abbrev pub key_byte : (byte : ℕ) → ℕ
+key_byte byte = if byte == 46 then 95 else byte
+
+-- The key of a name in JSON.
+abbrev pub key_text : (name : List ℕ) → List ℕ
+key_text name = map key_byte name
+
 -- The text of a row in a part of an output.
 unfoldable pub item_text : Part → Row → List ℕ
 item_text Line row = with_line_feed (row.name ++ codes " " ++ value_text row.value)
@@ -42,7 +68,7 @@ item_text Name row = row.name
 item_text Quantity row = value_text row.value
 item_text Heading row = row.name
 item_text Cell row = value_text row.value
-item_text Member row = codes "\"" ++ row.name ++ codes "\": " ++ value_text row.value
+item_text Member row = codes "\"" ++ key_text row.name ++ codes "\": " ++ member_text row.value
 
 -- The bytes between two rows.
 abbrev pub separator_of : Part → List ℕ

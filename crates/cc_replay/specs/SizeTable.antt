@@ -1,12 +1,11 @@
 -- The table of the objects that were made, by the powers of two of their sizes, and its text in each format.
-use Rattle.std.specs.Prelude.{ℕ, Bool, true, false, ◌+◌, ◌-◌, ◌*◌, ◌^◌, ◌==◌, List, [], ◌∷◌, ◌++◌, codes, if◌then◌else◌}
+use Rattle.std.specs.Prelude.{ℕ, ◌+◌, ◌-◌, ◌*◌, ◌^◌, ◌==◌, List, [], ◌∷◌, ◌++◌, codes, if◌then◌else◌}
 use Rattle.cc_io.specs.Text.{with_line_feed}
 use Rattle.cc_heap.specs.declared.sizes.SizeTotals.{SizeTotals}
 use Rattle.cc_replay.specs.declared.table.Format.{Format}
 use Rattle.cc_replay.specs.declared.table.Format.TheVariants.{Text, Csv, Json}
 use Rattle.cc_replay.specs.declared.table.Part.TheVariants.{Cell, Heading, Member}
 use Rattle.cc_replay.specs.Rows.{Row, items_text, names_line, values_line}
-use Rattle.cc_heap.specs.Sizes.{no_sizes}
 use Rattle.cc_replay.specs.Summary.{number_row}
 
 -- The names and values of a row: the smallest and the largest size of its power of two, and the numbers of

@@ -1,7 +1,8 @@
 -- The tables of a replay: the summary, and the rows of a series.
 use Rattle.std.specs.Prelude.{ℕ, Bool, ◌+◌, ◌-◌, List, [], ◌∷◌, ◌++◌, codes, if◌then◌else◌}
 use Rattle.cc_replay.specs.declared.counts.Counts.{Counts}
-use Rattle.cc_replay.specs.declared.table.Value.TheVariants.{Number, Percent}
+use Rattle.cc_formats.specs.declared.reading.SampleReason.{SampleReason}
+use Rattle.cc_replay.specs.declared.table.Value.TheVariants.{Number, Percent, Reason}
 use Rattle.cc_replay.specs.declared.summary.Figures.{Figures}
 use Rattle.cc_heap.specs.declared.totals.Totals.{Totals}
 use Rattle.cc_heap.specs.declared.usage.Usage.{Usage}
@@ -93,9 +94,9 @@ summary_rows figures =
     line_rows figures.counts ++ refusal_rows figures.counts ++ made_rows figures.totals ++ peak_rows figures.totals
     ++ end_rows figures.usage ++ failure_rows figures.has_pointers figures.counts
 
--- The rows of a sample: the state of a heap after an event, which becomes one line of a series.
-abbrev pub sample_rows : (time : ℕ) → Figures → List Row
-sample_rows time figures =
+-- The rows of a sample: the state of a heap after an event, which becomes one line of a series, and why there is one.
+abbrev pub sample_rows : SampleReason → (time : ℕ) → Figures → List Row
+sample_rows reason time figures =
     number_row (codes "line") figures.counts.lines
     ∷ number_row (codes "event") figures.counts.events
     ∷ number_row (codes "time") time
@@ -109,4 +110,5 @@ sample_rows time figures =
     ∷ number_row (codes "peak.held") figures.totals.peak_held
     ∷ number_row (codes "high") figures.totals.high
     ∷ number_row (codes "sweeps") figures.totals.sweeps
+    ∷ record { name = codes "why"; value = Reason reason }
     ∷ []

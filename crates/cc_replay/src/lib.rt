@@ -13,20 +13,18 @@ mod script;
 mod script_lines;
 mod series;
 mod size_table;
-mod summarizing;
 mod summary;
 mod table;
 
-pub use cc_formats::{Entry, Progress, Reading, TraceFormat, read_entry, read_event};
+pub use cc_formats::{Entry, Progress, Reading, SampleReason, TraceFormat, read_entry, read_event};
 pub use cc_heap::{
     Event, Heap, Making, Object, Outcome, Policy, Reallocation, Run, Settings, Share, Totals, Usage,
 };
 pub use counts::{Count, Counts};
-pub use policy_text::read_policy;
+pub use policy_text::{push_policy, read_policy};
 pub use replay::{Replay, replay_trace};
 pub use script::{Script, script_trace};
 pub use series::{MOST_SAMPLE, push_sample, push_series_header};
 pub use size_table::write_sizes;
-pub use summarizing::{Failure, summarize_trace};
 pub use summary::{Figures, write_summary};
 pub use table::Format;

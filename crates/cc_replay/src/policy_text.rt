@@ -1,9 +1,11 @@
 //! The policy that a string names.
-ghost use Rattle.std.specs.Prelude.{◌≡◌, Ok};
+ghost use Rattle.std.specs.Prelude.{◌≡◌, ◌≤◌, ◌+◌, ◌++◌, length, Ok};
 ghost use Rattle.cc_heap.specs.declared.policy.Policy.{Policy as PolicySpec};
 ghost use Rattle.cc_replay.specs.PolicyText.{IsPolicyText, in_range, numbered_in, of_percent, percent_in, policy_in};
+ghost use Rattle.cc_replay.specs.PolicyText.{policy_text, share_text};
 
 use cc_heap::{Policy, Share};
+use cc_io::Page;
 use cc_values::read_address;
 use cc_word::Refusal;
 
@@ -76,5 +78,45 @@ fn read_percent(number: &[u8], of: Share) -> Result<Policy, Refusal>
         }),
         Ok(_) => Err(Refusal::OutOfRange),
         Err(refusal) => Err(refusal),
+    }
+}
+
+/// Appends the shortest string that [`read_policy`] reads as a policy: numbers are decimal, and `:held` is omitted.
+///
+/// Requires: 46 bytes of the page are free.
+pub fn push_policy<const N: usize>(page: &mut Page<N>, policy: Policy)
+    requires { length page.old + 46 ≤ N }
+    ensures value { page.new ≡ page.old ++ policy_text policy }
+    ensures fits { length page.new ≤ length page.old + 46 }
+    ensures names { IsPolicyText policy (policy_text policy) }
+{
+    match policy {
+        Policy::Immediate => page.push(b"none"),
+        Policy::Never => page.push(b"never"),
+        Policy::Trace => page.push(b"trace"),
+        Policy::Bytes(bytes) => {
+            page.push(b"bytes:");
+            page.push_decimal(u128::from(bytes));
+        }
+        Policy::Frees(frees) => {
+            page.push(b"frees:");
+            page.push_decimal(u128::from(frees));
+        }
+        Policy::Percent { percent, of } => {
+            page.push_index(percent);
+            page.push(share_text(of));
+        }
+    }
+}
+
+/// Returns the end of a percentage of these bytes.
+fn share_text(of: Share) -> &'static [u8]
+    ensures value { result.now ≡ share_text of }
+    ensures fits { length result.now ≤ 6 }
+{
+    match of {
+        Share::Held => b"%",
+        Share::Live => b"%:live",
+        Share::High => b"%:high",
     }
 }

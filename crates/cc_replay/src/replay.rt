@@ -1,11 +1,10 @@
 //! A heap over a trace that takes the lines of it.
-ghost use Rattle.std.specs.Prelude.{◌≡◌, ◌≤◌, ◌+◌, ◌↔◌, ◌++◌, ◌^◌, [], true, false, length, Err, IfOk, IfSome};
-ghost use Rattle.std.specs.Prelude.{IsTrue, OnErr};
+ghost use Rattle.std.specs.Prelude.{◌≡◌, ◌≤◌, ◌+◌, ◌++◌, ◌^◌, [], true, false, length, Err, IfOk, IfSome};
+ghost use Rattle.std.specs.Prelude.{OnErr};
 ghost use Rattle.cc_io.specs.Answers.{AnswersInto};
 ghost use Rattle.cc_io.specs.Correct.{Pumps};
 ghost use Rattle.cc_io.specs.Frames.{lines};
 ghost use Rattle.cc_io.specs.Devices.{IsOutcome, SendsBytes};
-ghost use Rattle.cc_formats.specs.declared.reading.Progress.TheVariants.{OutOfMemory};
 ghost use Rattle.cc_formats.specs.Reading.{is_over};
 ghost use Rattle.cc_placer.specs.Alignment.{HasAlignment};
 ghost use Rattle.cc_heap.specs.Lost.{empty_run};
@@ -17,7 +16,7 @@ ghost use Rattle.cc_replay.specs.Taking.{AppendsEntry, AppendsEvent, Refuses, ne
 use crate::counts::{Count, Counts};
 use crate::series::{MOST_SAMPLE, push_sample, push_series_header};
 use crate::summary::Figures;
-use cc_formats::{Entry, Progress, Reading, read_entry};
+use cc_formats::{Entry, Progress, Reading, SampleReason, read_entry};
 use cc_heap::{Event, Heap, Run, Settings, SizeTotals};
 use cc_io::{
     Answerer, IoError, Lines, Page, Pending, Sink, Source, Summary, pump, write_and_flush,
@@ -124,6 +123,13 @@ impl<P: Placer> Replay<P> {
         }
     }
 
+    /// Returns the settings of the heap.
+    pub fn settings(&self) -> Settings
+        ensures { result ≡ self.now.run.heap.settings }
+    {
+        self.run.settings()
+    }
+
     /// Returns the numbers of the objects that were made, with a row for each power of two: the row
     /// of the objects whose sizes are at least the power, and below the next.
     pub fn sizes(&self) -> &[SizeTotals; 64]
@@ -161,7 +167,7 @@ impl<P: Placer> Replay<P> {
         ensures { page.new ≡ page.old ++ last_sample self.now }
     {
         if self.reading.each != 0 && !self.is_sampled {
-            push_sample(page, self.time, &self.figures());
+            push_sample(page, SampleReason::Last, self.time, &self.figures());
         }
     }
 
@@ -170,16 +176,6 @@ impl<P: Placer> Replay<P> {
         ensures { result ≡ self.now.progress }
     {
         self.progress
-    }
-
-    /// Returns whether an allocation failed.
-    pub(crate) fn is_out_of_memory(&self) -> bool
-        ensures { IsTrue result ↔ (self.now.progress ≡ OutOfMemory) }
-    {
-        match self.progress {
-            Progress::OutOfMemory => true,
-            Progress::Running | Progress::Stopped => false,
-        }
     }
 
     /// Takes a line, and appends a sample if it is due. Returns whether the line is refused.
@@ -203,7 +199,7 @@ impl<P: Placer> Replay<P> {
 
     /// Counts a line and takes its entry, and appends a sample if it is due. Returns whether it is refused.
     ///
-    /// Requires: the alignment that its event requests is a power of two; 1,301 bytes of the page are free.
+    /// Requires: the alignment that its event requests is a power of two; `MOST_SAMPLE` bytes of the page are free.
     pub fn take_entry<const N: usize>(&mut self, entry: Entry, out: &mut Page<N>) -> bool
         requires aligned { IfOk entry.event (λ event. IfSome event HasAlignment) }
         requires room { length out.old + most_sample ≤ N }
@@ -269,7 +265,8 @@ impl<P: Placer> Replay<P> {
             .reading
             .is_due(self.counts.events, sweeps, self.run.totals().sweeps);
         if self.is_sampled {
-            push_sample(out, self.time, &self.figures());
+            let reason = self.reading.reason_of(self.counts.events);
+            push_sample(out, reason, self.time, &self.figures());
         }
         is_refused
     }

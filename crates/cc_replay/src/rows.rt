@@ -1,9 +1,13 @@
 //! Tables of names and values, and their text in each format.
 ghost use Rattle.std.specs.Prelude.{◌≡◌, ◌≤◌, ◌+◌, ◌*◌, ◌%◌, ◌++◌, decimal, length};
-ghost use Rattle.cc_replay.specs.Rows.{item_text, items_text, more_items, names_line, parts_of, percent_text};
-ghost use Rattle.cc_replay.specs.Rows.{rows_of, separator_of, table_text, value_text, values_line};
+ghost use Rattle.cc_replay.specs.Rows.{item_text, items_text, key_text};
+ghost use Rattle.cc_replay.specs.Rows.{member_text, more_items, names_line, parts_of};
+ghost use Rattle.cc_replay.specs.Rows.{percent_text, reason_text, rows_of};
+ghost use Rattle.cc_replay.specs.Rows.{separator_of, table_text, value_text, values_line};
 
+use crate::policy_text::push_policy;
 use crate::table::{Format, Part, Row, Value};
+use cc_formats::SampleReason;
 use cc_io::{Line, Page};
 
 /// The maximum part of a percentage.
@@ -121,9 +125,45 @@ fn push_item<const N: usize>(page: &mut Page<N>, part: Part, row: &Row)
         Part::Quantity | Part::Cell => push_value(page, row.value),
         Part::Member => {
             page.push(b"\"");
-            page.push(row.name);
+            push_key(page, row.name);
             page.push(b"\": ");
-            push_value(page, row.value);
+            push_member(page, row.value);
+        }
+    }
+}
+
+/// Appends the key of a name in JSON.
+fn push_key<const N: usize>(page: &mut Page<N>, name: &[u8])
+    requires { length page.old + length name.now ≤ N }
+    ensures value { page.new ≡ page.old ++ key_text name.now }
+    ensures fits { length page.new ≡ length page.old + length name.now }
+{
+    let mut rest = name;
+    'bytes: while let Some((byte, after)) = rest.split_first() {
+        page.push(&[if *byte == b'.' { b'_' } else { *byte }]);
+        rest = after;
+    }
+}
+
+/// Appends a value in JSON.
+#[tactic(auto, unfolding(crate::specs::Rows::member_text))]
+fn push_member<const N: usize>(page: &mut Page<N>, value: Value)
+    requires { length page.old + 54 ≤ N }
+    ensures value { page.new ≡ page.old ++ member_text value }
+    ensures fits { length page.new ≤ length page.old + 54 }
+{
+    match value {
+        Value::Number(number) => page.push_decimal(number),
+        Value::Percent(parts) => push_percent(page, parts),
+        Value::Reason(reason) => {
+            page.push(b"\"");
+            page.push(reason_text(reason));
+            page.push(b"\"");
+        }
+        Value::Sweeping(policy) => {
+            page.push(b"\"");
+            push_policy(page, policy);
+            page.push(b"\"");
         }
     }
 }
@@ -138,6 +178,20 @@ fn push_value<const N: usize>(page: &mut Page<N>, value: Value)
     match value {
         Value::Number(number) => page.push_decimal(number),
         Value::Percent(parts) => push_percent(page, parts),
+        Value::Reason(reason) => page.push(reason_text(reason)),
+        Value::Sweeping(policy) => push_policy(page, policy),
+    }
+}
+
+/// Returns the word for the reason of a sample.
+fn reason_text(reason: SampleReason) -> &'static [u8]
+    ensures value { result.now ≡ reason_text reason }
+    ensures fits { length result.now ≤ 5 }
+{
+    match reason {
+        SampleReason::Regular => b"each",
+        SampleReason::Swept => b"sweep",
+        SampleReason::Last => b"end",
     }
 }
 

@@ -1,5 +1,6 @@
 //! The samples of a series.
 ghost use Rattle.std.specs.Prelude.{◌≡◌, ◌≤◌, ◌+◌, ◌*◌, ◌^◌, ◌++◌, length};
+ghost use Rattle.cc_formats.specs.declared.reading.SampleReason.TheVariants.{Last};
 ghost use Rattle.cc_replay.specs.Replay.{most_sample};
 ghost use Rattle.cc_replay.specs.Rows.{names_line, rows_of, values_line};
 ghost use Rattle.cc_replay.specs.Summary.{sample_rows};
@@ -8,37 +9,44 @@ use crate::row;
 use crate::rows::{push_names, push_values};
 use crate::summary::Figures;
 use crate::table::{Row, Value};
+use cc_formats::SampleReason;
 use cc_io::Page;
 
 /// The maximum number of bytes of a line of a series.
-pub const MOST_SAMPLE: usize = 1301;
+pub const MOST_SAMPLE: usize = 1401;
 
 /// Appends the header of a series: the names of the columns, with commas between. They do not
 /// depend on the figures.
 ///
-/// Requires: 1,301 bytes of the page are free.
+/// Requires: `MOST_SAMPLE` bytes of the page are free.
 pub fn push_series_header<const N: usize>(page: &mut Page<N>, figures: &Figures)
     requires { length page.old + most_sample ≤ N }
-    ensures value { page.new ≡ page.old ++ names_line (sample_rows 0 figures.now) }
+    ensures value { page.new ≡ page.old ++ names_line (sample_rows Last 0 figures.now) }
     ensures fits { length page.new ≤ length page.old + most_sample }
 {
-    push_names(page, &sample_rows(0, figures));
+    push_names(page, &sample_rows(SampleReason::Last, 0, figures));
 }
 
-/// Appends a sample: the numbers of a replay after a line, with the time that the trace gave last.
+/// Appends a sample: the numbers of a replay after a line, with the time that the trace gave last, and the
+/// reason of the sample.
 ///
-/// Requires: 1,301 bytes of the page are free.
-pub fn push_sample<const N: usize>(page: &mut Page<N>, time: u64, figures: &Figures)
+/// Requires: `MOST_SAMPLE` bytes of the page are free.
+pub fn push_sample<const N: usize>(
+    page: &mut Page<N>,
+    reason: SampleReason,
+    time: u64,
+    figures: &Figures,
+)
     requires { length page.old + most_sample ≤ N }
-    ensures value { page.new ≡ page.old ++ values_line (sample_rows time figures.now) }
+    ensures value { page.new ≡ page.old ++ values_line (sample_rows reason time figures.now) }
     ensures fits { length page.new ≤ length page.old + most_sample }
 {
-    push_values(page, &sample_rows(time, figures));
+    push_values(page, &sample_rows(reason, time, figures));
 }
 
 /// Returns the rows of a sample.
-fn sample_rows(time: u64, figures: &Figures) -> [Row; 13]
-    ensures { rows_of result ≡ sample_rows time figures.now }
+fn sample_rows(reason: SampleReason, time: u64, figures: &Figures) -> [Row; 14]
+    ensures { rows_of result ≡ sample_rows reason time figures.now }
 {
     let Figures {
         counts,
@@ -60,5 +68,9 @@ fn sample_rows(time: u64, figures: &Figures) -> [Row; 13]
         row!(b"peak.held", totals.peak_held),
         row!(b"high", totals.high),
         row!(b"sweeps", totals.sweeps),
+        Row {
+            name: b"why",
+            value: Value::Reason(reason),
+        },
     ]
 }

@@ -1,6 +1,9 @@
 //! The rows of tables: names and values.
 ghost use Rattle.std.specs.Prelude.{◌≤◌, length};
 
+use cc_formats::SampleReason;
+use cc_heap::Policy;
+
 /// The format of a table.
 #[derive(Clone, Copy)]
 pub enum Format {
@@ -19,6 +22,10 @@ pub(crate) enum Value {
     Number(u128),
     /// A percentage, in ten-thousandths.
     Percent(u128),
+    /// The reason of a sample.
+    Reason(SampleReason),
+    /// A policy.
+    Sweeping(Policy),
 }
 
 /// A part of the text of a table.

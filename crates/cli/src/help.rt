@@ -240,7 +240,7 @@ pub(crate) const SUMMARY_HELP: &str = "Format of the summary [default: text]";
 
 pub(crate) const EACH_HELP: &str = "\
 Print a series instead of the summary, as comma-separated values: a sample at every N-th event, at
-each event that sweeps, and at the end";
+each event that sweeps, and at the end; its last column is `each`, `sweep` or `end`";
 
 pub(crate) const SIZES_HELP: &str = "\
 Print a table of the placed objects instead of the summary, in its format: a row for each power of
@@ -248,7 +248,8 @@ two of their sizes; not with --each, --svg or --script";
 
 pub(crate) const CHART_HELP: &str = "\
 Print a chart of the heap over the events instead of the summary, as SVG for a page: the live,
-quarantined and held bytes, and the high-water mark; not with --each, --sizes or --script";
+quarantined and held bytes, and the high-water mark, under a line with the policy and the alignment;
+not with --each, --sizes or --script";
 
 pub(crate) const SCRIPT_HELP: &str = "\
 Print the changes of the heap as a script instead of the summary: `plan --slots 65536` with this
@@ -296,9 +297,9 @@ program ran out of memory, FILE cannot be opened, or its input or output failed.
 
 Example:
   printf 'a 1 100\\na 2 8191\\nf 1\\n' | cheri-cap replay --each 2
-  line,event,time,made.asked,objects,asked,live,quarantine,held,peak.quarantine,peak.held,high,sweeps
-  2,2,0,8291,2,8291,8292,0,8292,0,8292,8304,0
-  3,3,0,8291,1,8191,8192,100,8292,100,8292,8304,0";
+  line,event,time,made.asked,objects,asked,live,quarantine,held,peak.quarantine,peak.held,high,sweeps,why
+  2,2,0,8291,2,8291,8292,0,8292,0,8292,8304,0,each
+  3,3,0,8291,1,8191,8192,100,8292,100,8292,8304,0,end";
 
 pub(crate) const DECODE_ABOUT: &str = "Decodes words, one on each line";
 

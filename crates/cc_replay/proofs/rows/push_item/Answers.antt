@@ -1,5 +1,5 @@
 use Rattle.std.proofs.Common.{◌≤◌, [], ◌∷◌, ap, arith, length, length-append, rules}
-use Rattle.cc_replay.specs.Rows.{item_text, value_text}
+use Rattle.cc_replay.specs.Rows.{item_text, key_text, member_text, value_text}
 use Rattle.cc_replay.proofs.RowLemmas.{joined}
 use Rattle.cc_replay.proofs.rows.push_item.Goals as goal
 
@@ -34,33 +34,29 @@ push-requires-in-Line-2 g c =
       ),
     )
 
-pub push-requires-in-Member-3 : goal.push-requires-in-Member-3
-push-requires-in-Member-3 g c =
+pub push_key-requires : goal.push_key-requires
+push_key-requires g c =
+    let short : length c.args.row.now.name.now ≤ 40 = search rules in
+    (search rules, omega (arith, ap length c.push-in-Member.ensures, length-append c.args.page.now (34 ∷ []), short, c.requires))
+
+pub push-requires-in-Member-2 : goal.push-requires-in-Member-2
+push-requires-in-Member-2 g c =
     let short : length c.args.row.now.name.now ≤ 40 = search rules in (
       search rules,
-      omega (
-        arith,
-        ap length c.push-in-Member.ensures,
-        ap length c.push-in-Member-2.ensures,
-        length-append c.args.page.now (34 ∷ []),
-        length-append c.push-in-Member.new.self c.args.row.now.name.now,
-        short,
-        c.requires,
-      ),
+      omega (arith, ap length c.push-in-Member.ensures, length-append c.args.page.now (34 ∷ []), c.push_key.ensures.fits, short, c.requires),
     )
 
-pub push_value-requires-in-Member : goal.push_value-requires-in-Member
-push_value-requires-in-Member g c =
+pub push_member-requires : goal.push_member-requires
+push_member-requires g c =
     let short : length c.args.row.now.name.now ≤ 40 = search rules in (
       search rules,
       omega (
         arith,
         ap length c.push-in-Member.ensures,
         ap length c.push-in-Member-2.ensures,
-        ap length c.push-in-Member-3.ensures,
         length-append c.args.page.now (34 ∷ []),
-        length-append c.push-in-Member.new.self c.args.row.now.name.now,
-        length-append c.push-in-Member-2.new.self (34 ∷ 58 ∷ 32 ∷ []),
+        length-append c.push_key.new.page (34 ∷ 58 ∷ 32 ∷ []),
+        c.push_key.ensures.fits,
         short,
         c.requires,
       ),
@@ -88,11 +84,10 @@ returns-in-Member-clause-fits g c =
       arith,
       ap length c.push-in-Member.ensures,
       ap length c.push-in-Member-2.ensures,
-      ap length c.push-in-Member-3.ensures,
       length-append c.args.page.now (34 ∷ []),
-      length-append c.push-in-Member.new.self c.args.row.now.name.now,
-      length-append c.push-in-Member-2.new.self (34 ∷ 58 ∷ 32 ∷ []),
-      c.push_value-in-Member.ensures.fits,
+      length-append c.push_key.new.page (34 ∷ 58 ∷ 32 ∷ []),
+      c.push_key.ensures.fits,
+      c.push_member.ensures.fits,
       short,
     )
 
@@ -105,10 +100,5 @@ returns-in-Line-clause-value g c =
 pub returns-in-Member-clause-value : goal.returns-in-Member-clause-value
 unfolding item_text
 returns-in-Member-clause-value g c =
-    rw (
-      c.in-Member.is,
-      c.push_value-in-Member.ensures.value,
-      c.push-in-Member-3.ensures,
-      c.push-in-Member-2.ensures,
-      c.push-in-Member.ensures,
-    ) (joined c.args.page.now (34 ∷ []) c.args.row.now.name.now (34 ∷ 58 ∷ 32 ∷ []) (value_text c.args.row.now.value))
+    rw (c.in-Member.is, c.push_member.ensures.value, c.push-in-Member-2.ensures, c.push_key.ensures.value, c.push-in-Member.ensures)
+    (joined c.args.page.now (34 ∷ []) (key_text c.args.row.now.name.now) (34 ∷ 58 ∷ 32 ∷ []) (member_text c.args.row.now.value))

@@ -3,7 +3,8 @@ use Rattle.cc_formats.specs.declared.reading.Progress.TheVariants.{OutOfMemory}
 use Rattle.cc_replay.specs.declared.summary.Figures.{Figures}
 use Rattle.cc_heap.specs.declared.totals.Totals.{Totals}
 use Rattle.cc_replay.specs.Counts.{with_outcome}
-use Rattle.cc_formats.specs.Reading.{is_due}
+use Rattle.cc_formats.specs.declared.reading.SampleReason.{SampleReason}
+use Rattle.cc_formats.specs.Reading.{is_due, reason_of}
 use Rattle.cc_replay.specs.Replay.{ReplayState, replaying, sample_text}
 use Rattle.cc_replay.specs.Taking.{AppendsEvent}
 use Rattle.cc_replay.specs.Rows.{values_line}
@@ -34,8 +35,10 @@ returns-then-self g c =
     let sampled_is = c.is_due-self-inside.ensures
     ∙ ap (λ (t : Totals). is_due inside.reading counts.events t.sweeps c.totals.result.sweeps) c.totals-sweeps.ensures
     ∙ ap (λ (t : Totals). is_due inside.reading counts.events inside.run.heap.totals.sweeps t.sweeps) c.totals.ensures in
-    let text_is : values_line (sample_rows time c.figures.result) ≡ sample_text sampled new =
-    ap (λ (f : Figures). values_line (sample_rows time f)) c.figures.ensures ∙ sym (ap (λ (b : Bool). sample_text b new) c.if-self.true) in
+    let reason = reason_of inside.reading counts.events in
+    let text_is : values_line (sample_rows c.reason_of-reason.result time c.figures.result) ≡ sample_text sampled reason new =
+    ap (λ (r : SampleReason). values_line (sample_rows r time c.figures.result)) c.reason_of-reason.ensures
+    ∙ ap (λ (f : Figures). values_line (sample_rows reason time f)) c.figures.ensures ∙ sym (ap (λ (b : Bool). sample_text b reason new) c.if-self.true) in
     subst (λ (old : ReplayState). AppendsEvent replaying old c.args.event c.args.out.now c.push_sample.new.page c.is_refused-is_refused.result new) c.self.view_is
     (event_taken (state_of inside.run inside.reading inside.counts inside.pending inside.time inside.progress inside.is_sampled) c.args.event c.in-Ok.outcome run counts time
     progress sampled c.args.out.now c.push_sample.new.page c.is_refused-is_refused.result c.in-Ok.ensures.is_event counts_is c.time_after-self-inside.ensures
@@ -55,7 +58,8 @@ returns-else-self g c =
     let sampled_is = c.is_due-self-inside.ensures
     ∙ ap (λ (t : Totals). is_due inside.reading counts.events t.sweeps c.totals.result.sweeps) c.totals-sweeps.ensures
     ∙ ap (λ (t : Totals). is_due inside.reading counts.events inside.run.heap.totals.sweeps t.sweeps) c.totals.ensures in
-    let text_is : [] ≡ sample_text sampled new = sym (ap (λ (b : Bool). sample_text b new) c.if-self.false) in
+    let reason = reason_of inside.reading counts.events in
+    let text_is : [] ≡ sample_text sampled reason new = sym (ap (λ (b : Bool). sample_text b reason new) c.if-self.false) in
     subst (λ (old : ReplayState). AppendsEvent replaying old c.args.event c.args.out.now c.args.out.now c.is_refused-is_refused.result new) c.self.view_is
     (event_taken (state_of inside.run inside.reading inside.counts inside.pending inside.time inside.progress inside.is_sampled) c.args.event c.in-Ok.outcome run counts time
     progress sampled c.args.out.now c.args.out.now c.is_refused-is_refused.result c.in-Ok.ensures.is_event counts_is c.time_after-self-inside.ensures
