@@ -1,5 +1,5 @@
--- The SVG document of a chart. Its curves are 6,400 units wide and 3,200 high. It has only fixed strings and
--- digits, so no character needs an escape.
+-- The SVG document of a chart. Its curves are 6,400 units wide and 3,200 high. It has only fixed strings, digits and
+-- the caption, so if no character of the caption needs an escape, none does.
 use Rattle.std.specs.Prelude.{ℕ, zero, suc, ◌+◌, ◌*◌, ◌/◌, ◌%◌, ◌^◌, min, nat_lt, List, [], ◌∷◌, ◌++◌, codes, if◌then◌else◌}
 use Rattle.cc_io.specs.Svg.{markup, opening_text, sheet_text}
 use Rattle.cc_io.specs.Numbered.{line_with_decimal, with_decimal}
@@ -122,16 +122,20 @@ labels_text scale reach =
 abbrev pub scaled_text : Scale → (reach : ℕ) → List Levels → List ℕ
 scaled_text scale reach columns = labels_text scale reach ++ curves_text scale columns
 
+-- The caption above the legend.
+abbrev pub caption_text : (caption : List ℕ) → List ℕ
+caption_text caption = codes "<text x='0' y='-500'>" ++ caption ++ codes "</text>\n"
+
 -- The drawing of columns of `width` events each. At its end are the axes, and the name of the horizontal one.
-abbrev pub drawing_of : (events width : ℕ) → List Levels → List ℕ
-drawing_of events width columns =
+abbrev pub drawing_of : (caption : List ℕ) → (events width : ℕ) → List Levels → List ℕ
+drawing_of caption events width columns =
     opening_text (codes "width='800' height='440' viewBox='-1050 -700 8000 4400' font-family='sans-serif' font-size='120'")
     ++ markup (codes "<title>The heap of a trace</title>\n") ++ chart_counts_text events width
     ++ sheet_text (codes "x='-1050' y='-700' width='8000' height='4400'")
     ++ scaled_text (scale_of (reach_of (greatest columns)) events width) (reach_of (greatest columns)) columns
-    ++ chart_legend_text ++ markup (codes "<path d='M0,0V3200H6400' fill='none' stroke='#000' stroke-width='16'/>\n")
+    ++ caption_text caption ++ chart_legend_text ++ markup (codes "<path d='M0,0V3200H6400' fill='none' stroke='#000' stroke-width='16'/>\n")
     ++ markup (codes "<text x='3200' y='3580' text-anchor='middle'>events</text>\n</svg>\n")
 
--- The text of a chart.
-abbrev pub chart_text : Chart → List ℕ
-chart_text chart = drawing_of (event_count chart) chart.width (drawn_columns chart)
+-- The text of a chart with a caption.
+abbrev pub chart_text : (caption : List ℕ) → Chart → List ℕ
+chart_text caption chart = drawing_of caption (event_count chart) chart.width (drawn_columns chart)

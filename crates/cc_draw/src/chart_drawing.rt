@@ -3,7 +3,7 @@ ghost use Rattle.std.specs.Prelude.{◌≡◌, ◌≤◌, ◌+◌, ◌*◌, ◌^
 ghost use Rattle.cc_io.specs.Devices.{SendsBytes};
 ghost use Rattle.cc_draw.specs.ChartDrawing.{byte_label, byte_labels, byte_unit, chart_text, chart_counts_text};
 ghost use Rattle.cc_draw.specs.ChartDrawing.{drawing_of, entry_text, event_label, event_labels, event_letter};
-ghost use Rattle.cc_draw.specs.ChartDrawing.{event_unit, labels_text, chart_legend_text, scaled_text};
+ghost use Rattle.cc_draw.specs.ChartDrawing.{caption_text, event_unit, labels_text, chart_legend_text, scaled_text};
 ghost use Rattle.cc_draw.specs.Levels.{greatest};
 ghost use Rattle.cc_draw.specs.Scale.{event_step, reach_of, right_to, scale_of, step_count, step_power};
 
@@ -20,19 +20,22 @@ use cc_io::{
 /// The maximum number of bytes of a drawing.
 const MOST_DRAWING: usize = 98304;
 
-/// Writes the drawing of a chart as an SVG document, and flushes the sink.
+/// Writes the drawing of a chart with a caption above it as an SVG document, and flushes the sink. The caption is
+/// written as it is, so it must have no character that SVG escapes, such as `&` and `<`.
 ///
-/// Requires: the sink has not failed.
+/// Requires: the sink has not failed; the caption has at most 192 bytes.
 /// Errors: `Write` if the sink fails. A prefix of the drawing is then written.
-pub fn write_chart<W: Sink>(chart: &Chart, sink: &mut W) -> Result<(), IoError>
-    requires { (W.state sink.old).has_failed ≡ false }
-    ensures sends { SendsBytes (W.state sink.old) (W.state sink.new) (chart_text chart.now) result }
+pub fn write_chart<W: Sink>(chart: &Chart, caption: &[u8], sink: &mut W) -> Result<(), IoError>
+    requires sink { (W.state sink.old).has_failed ≡ false }
+    requires short { length caption.now ≤ 192 }
+    ensures sends { SendsBytes (W.state sink.old) (W.state sink.new) (chart_text caption.now chart.now) result }
     ensures write { OnErr result (result ≡ Err IoError.Write) }
 {
     let mut page: Page<MOST_DRAWING> = Page::new();
     let columns = chart.drawn_columns();
     push_drawing(
         &mut page,
+        caption,
         chart.event_count(),
         chart.width(),
         columns.as_slice(),
@@ -41,11 +44,18 @@ pub fn write_chart<W: Sink>(chart: &Chart, sink: &mut W) -> Result<(), IoError>
 }
 
 /// Appends the drawing of columns of `width` events each.
-fn push_drawing<const N: usize>(page: &mut Page<N>, events: u128, width: u64, columns: &[Levels])
+fn push_drawing<const N: usize>(
+    page: &mut Page<N>,
+    caption: &[u8],
+    events: u128,
+    width: u64,
+    columns: &[Levels],
+)
+    requires short { length caption.now ≤ 192 }
     requires few { length columns.now ≤ 256 }
     requires fits { events ≤ 2 ^ 73 }
-    requires room { length page.old + 95000 ≤ N }
-    ensures { page.new ≡ page.old ++ drawing_of events width columns.now }
+    requires room { length page.old + 95300 ≤ N }
+    ensures { page.new ≡ page.old ++ drawing_of caption.now events width columns.now }
 {
     push_opening(
         page,
@@ -55,6 +65,7 @@ fn push_drawing<const N: usize>(page: &mut Page<N>, events: u128, width: u64, co
     push_counts(page, events, width);
     push_sheet(page, b"x='-1050' y='-700' width='8000' height='4400'");
     push_scaled(page, events, width, columns);
+    push_caption(page, caption);
     push_legend(page);
     push_markup(
         page,
@@ -64,6 +75,17 @@ fn push_drawing<const N: usize>(page: &mut Page<N>, events: u128, width: u64, co
         page,
         b"<text x='3200' y='3580' text-anchor='middle'>events</text>\n</svg>\n",
     );
+}
+
+/// Appends the caption.
+fn push_caption<const N: usize>(page: &mut Page<N>, caption: &[u8])
+    requires { length page.old + length caption.now + 32 ≤ N }
+    ensures value { page.new ≡ page.old ++ caption_text caption.now }
+    ensures fits { length page.new ≤ length page.old + length caption.now + 32 }
+{
+    page.push(b"<text x='0' y='-500'>");
+    page.push(caption);
+    page.push(b"</text>\n");
 }
 
 /// Appends the labels and the curves.

@@ -1,11 +1,10 @@
 -- The output of `replay --svg`, from that of its parts.
-use Rattle.std.proofs.Common.{◌≡◌, ◌≢◌, ℕ, Bool, false, refl, ◌∙◌, ap₂, List, Option, None, Ok, subst, sym}
+use Rattle.std.proofs.Common.{◌≡◌, ◌≢◌, ℕ, Bool, false, refl, ◌∙◌, ap₂, List, Option, Ok, subst, sym}
 use Rattle.std.specs.Io.KnownBytes.{Appends}
 use Rattle.cc_io.specs.Answers.{AnswersInto}
 use Rattle.cc_io.specs.Devices.{TakesPrefix}
 use Rattle.cc_io.specs.declared.summary.Summary.{Summary}
 use Rattle.cc_draw.specs.Chart.{Chart}
-use Rattle.cc_draw.specs.ChartDrawing.{chart_text}
 use Rattle.cc_formats.specs.declared.formats.Entry.{Entry}
 use Rattle.cc_formats.specs.declared.reading.Progress.{Progress}
 use Rattle.cc_formats.specs.declared.reading.Progress.TheVariants.{Running, Stopped, OutOfMemory}
@@ -15,7 +14,7 @@ use Rattle.cc_replay.specs.Taking.{AppendsEntry, next_entry}
 use Rattle.cc_replay.proofs.ReplayLemmas.{line_replayed}
 use Rattle.cc_replay.specs.declared.summary.Figures.{Figures}
 use Rattle.cli.specs.Devices.{Traffic}
-use Rattle.cli_replay.specs.Charting.{Charted, ChartsAll, ChartsLine, StopsInChart, ReachesEnd, TakesLines, charted, peakless}
+use Rattle.cli_replay.specs.Charting.{Charted, ChartsAll, ChartsLine, StopsInChart, ReachesEnd, TakesLines, charted, charted_text, peakless}
 
 -- The whole trace was taken, for bytes that are the same.
 takes_all : (old new : Charted) (unread unread_too left left_too : Option (List ℕ)) (summary : Summary) → unread_too ≡ unread → left_too ≡ left
@@ -31,25 +30,25 @@ takes_all old new unread unread_too left left_too summary u l takes has_memory =
 pub charts_all : (old new : Charted) (traffic : Traffic) (unread left output output_now : Option (List ℕ)) (summary : Summary)
     → traffic.source.unread ≡ unread → traffic.source_now.unread ≡ left → traffic.output.taken ≡ output → traffic.output_now.taken ≡ output_now
     → TakesLines old unread left (Ok summary) new → new.replay.progress ≢ OutOfMemory
-    → Appends output output_now (chart_text new.chart) → ChartsAll old traffic summary
+    → Appends output output_now (charted_text new) → ChartsAll old traffic summary
 charts_all old new traffic unread left output output_now summary u l o n takes has_memory written = record {
   new = new;
   all = takes_all old new unread traffic.source.unread left traffic.source_now.unread summary u l takes has_memory;
-  written = subst (λ (b : Option (List ℕ)). Appends b traffic.output_now.taken (chart_text new.chart)) (sym o)
-      (subst (λ (b : Option (List ℕ)). Appends output b (chart_text new.chart)) (sym n) written);
+  written = subst (λ (b : Option (List ℕ)). Appends b traffic.output_now.taken (charted_text new)) (sym o)
+      (subst (λ (b : Option (List ℕ)). Appends output b (charted_text new)) (sym n) written);
 }
 
 -- A chart of which a prefix was written, for the traffic of the devices.
 pub stops_in_chart : (old new : Charted) (traffic : Traffic) (unread left output output_now : Option (List ℕ)) (summary : Summary)
     → traffic.source.unread ≡ unread → traffic.source_now.unread ≡ left → traffic.output.taken ≡ output → traffic.output_now.taken ≡ output_now
     → TakesLines old unread left (Ok summary) new → new.replay.progress ≢ OutOfMemory
-    → TakesPrefix output output_now (chart_text new.chart) → StopsInChart old traffic
+    → TakesPrefix output output_now (charted_text new) → StopsInChart old traffic
 stops_in_chart old new traffic unread left output output_now summary u l o n takes has_memory written = record {
   summary = summary;
   new = new;
   all = takes_all old new unread traffic.source.unread left traffic.source_now.unread summary u l takes has_memory;
-  written = subst (λ (b : Option (List ℕ)). TakesPrefix b traffic.output_now.taken (chart_text new.chart)) (sym o)
-      (subst (λ (b : Option (List ℕ)). TakesPrefix output b (chart_text new.chart)) (sym n) written);
+  written = subst (λ (b : Option (List ℕ)). TakesPrefix b traffic.output_now.taken (charted_text new)) (sym o)
+      (subst (λ (b : Option (List ℕ)). TakesPrefix output b (charted_text new)) (sym n) written);
 }
 
 -- A line that a replay without peaks took, and the chart with the levels of its event.

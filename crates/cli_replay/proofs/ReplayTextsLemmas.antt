@@ -1,9 +1,7 @@
 -- The values of the texts of `replay`, and their refusals.
-use Rattle.std.proofs.Common.{◌≡◌, ◌∙◌, ◌<◌, Bool, List, length, nat_lt, true, false, Option, Some, None, Result, Ok, Err, ap, ap₂, arith, inl, inr, suc, zero, refl, subst, sym}
-use Rattle.std.specs.Prelude.{ℕ, ◌==◌, ◌⊎◌, ◌||◌, ◌^◌, IfOk, if◌then◌else◌}
-use Rattle.std.specs.Borrow.{Bor}
+use Rattle.std.proofs.Common.{◌≡◌, ◌∙◌, ◌<◌, Bool, List, length, nat_lt, true, false, Option, Some, None, Result, Ok, Err, ap, ap₂, arith, suc, zero, refl, subst, sym}
+use Rattle.std.specs.Prelude.{ℕ, ◌==◌, ◌^◌, IfOk}
 use Rattle.std.specs.List.{after_first, before_first, position_or_len}
-use Rattle.clap.specs.Words.{Text}
 use Rattle.cc_word.specs.declared.refusal.Refusal.{Refusal}
 use Rattle.cc_word.specs.declared.refusal.Refusal.TheVariants.{Syntax}
 use Rattle.cc_bounds.specs.declared.align.Align.{Align}
@@ -12,11 +10,9 @@ use Rattle.cc_syntax.specs.Request.{request_in}
 use Rattle.cc_values.specs.Values.{address_in, both}
 use Rattle.cc_heap.specs.declared.policy.Policy.{Policy}
 use Rattle.cc_formats.specs.declared.formats.TraceFormat.{TraceFormat}
-use Rattle.cc_formats.specs.declared.reading.Reading.{Reading}
 use Rattle.cc_bounds.specs.Span.{IsSpan}
 use Rattle.cc_heap.specs.declared.reallocation.Reallocation.{Reallocation}
 use Rattle.cc_heap.specs.declared.reallocation.Reallocation.TheVariants.{Move}
-use Rattle.cc_heap.specs.declared.settings.Settings.{Settings}
 use Rattle.cli.specs.declared.invocation.ReplayOutput.{ReplayOutput}
 use Rattle.cli.specs.declared.invocation.ReplayOutput.TheVariants.{Summary, Sizes, Chart, Script, Series}
 use Rattle.cli.specs.declared.invocation.ReplayTexts.{ReplayTexts}

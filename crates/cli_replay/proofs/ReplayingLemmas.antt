@@ -22,7 +22,7 @@ use Rattle.cli.specs.declared.invocation.SummaryFormat.{SummaryFormat}
 use Rattle.cli.specs.Devices.{Console, FromInput, OnDevices, Traffic}
 use Rattle.cli.specs.Input.{file_input}
 use Rattle.cli_replay.specs.ReplayTexts.{replay_in}
-use Rattle.cli_replay.specs.Replaying.{IsStreaming, IsTable, Replays, ReplaysAll, ReplaysTrace, Samples, SamplesAll, StopsInSummary, StopsSampling, SumsUp, SumsUpAll, WithReplay, WritesReplay}
+use Rattle.cli_replay.specs.Replaying.{IsStreaming, IsTable, Replays, ReplaysAll, ReplaysTrace, Samples, SamplesAll, StopsInSummary, StopsSampling, SumsUpAll, WithReplay, WritesReplay}
 use Rattle.cc_io.specs.CommandOutput.{WritesRefusal}
 use Rattle.cli.specs.declared.fault.Fault.{Fault}
 use Rattle.cli.specs.declared.input.InputName.{InputName}

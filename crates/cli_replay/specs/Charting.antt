@@ -1,6 +1,7 @@
 -- The output of `replay --svg`: a chart of the heap of a trace over its events.
-use Rattle.std.specs.Prelude.{ℕ, Bool, ◌≡◌, ◌≢◌, ◌+◌, max, List, [], Option, Some, None, Result, Ok, Err}
+use Rattle.std.specs.Prelude.{ℕ, Bool, ◌≡◌, ◌≢◌, ◌+◌, ◌++◌, codes, decimal, max, List, [], Option, Some, None, Result, Ok, Err}
 use Rattle.std.specs.Io.KnownBytes.{Appends}
+use Rattle.cc_bounds.specs.Align.{align_bytes}
 use Rattle.cc_io.specs.Correct.{Pumps}
 use Rattle.cc_io.specs.Devices.{TakesPrefix}
 use Rattle.cc_io.specs.Frames.{lines}
@@ -16,6 +17,7 @@ use Rattle.cc_heap.specs.Totals.{capped_sum}
 use Rattle.cc_heap.specs.declared.settings.Settings.{Settings}
 use Rattle.cc_placer.specs.declared.event.Event.{Event}
 use Rattle.cc_word.specs.declared.refusal.Refusal.{Refusal}
+use Rattle.cc_replay.specs.PolicyText.{policy_text}
 use Rattle.cc_replay.specs.Replay.{ReplayState, TakesLine, TakesRest, begun, figures_of, most_sample, replaying}
 use Rattle.cc_replay.specs.Taking.{next_entry}
 use Rattle.cc_formats.specs.declared.reading.Progress.{Progress}
@@ -53,6 +55,14 @@ abbrev pub charted : Progress → Result (Option Event) Refusal → Figures → 
 charted Running (Ok (Some event)) figures chart = with_event (levels_of figures) chart
 charted _ _ figures chart = chart
 
+-- The caption of the chart of a heap with these settings: its policy and its alignment.
+abbrev pub caption_of : Settings → List ℕ
+caption_of settings = codes "policy " ++ policy_text settings.policy ++ codes ", alignment " ++ decimal (align_bytes settings.align)
+
+-- The drawn chart of a replay.
+abbrev pub charted_text : Charted → List ℕ
+charted_text state = chart_text (caption_of state.replay.run.heap.settings) state.chart
+
 -- ChartsLine holds if the line is taken, and the levels of its event, if it is one, join the chart.
 pub record ChartsLine (old : Charted) (line text : List ℕ) (is_error : Bool) (new : Charted) : Type 0 where
   pub takes : TakesLine (peakless old.replay) line text is_error new.replay
@@ -77,14 +87,14 @@ pub record ReachesEnd (old : Charted) (unread left : Option (List ℕ)) (summary
 pub record ChartsAll (old : Charted) (traffic : Traffic) (summary : Summary) : Type 0 where
   pub new : Charted
   pub all : ReachesEnd old traffic.source.unread traffic.source_now.unread summary new
-  pub written : Appends traffic.output.taken traffic.output_now.taken (chart_text new.chart)
+  pub written : Appends traffic.output.taken traffic.output_now.taken (charted_text new)
 
 -- StopsInChart holds if the trace was taken, and a prefix of the chart was written.
 pub record StopsInChart (old : Charted) (traffic : Traffic) : Type 0 where
   pub summary : Summary
   pub new : Charted
   pub all : ReachesEnd old traffic.source.unread traffic.source_now.unread summary new
-  pub written : TakesPrefix traffic.output.taken traffic.output_now.taken (chart_text new.chart)
+  pub written : TakesPrefix traffic.output.taken traffic.output_now.taken (charted_text new)
 
 -- Charts holds if the chart of the trace's replay was written, up to a failed write. Nothing was written if a read failed.
 abbrev pub Charts : (old : Charted) → Traffic → Result Summary IoError → Type 0

@@ -1,6 +1,7 @@
 //! A replay whose heap is drawn as a chart.
-ghost use Rattle.std.specs.Prelude.{◌≡◌, ◌≢◌, ◌≤◌, ◌+◌, ◌↔◌, IfOk, false, true, length, Err, OnOk};
+ghost use Rattle.std.specs.Prelude.{◌≡◌, ◌≢◌, ◌≤◌, ◌+◌, ◌↔◌, IfOk, false, true, length, Err, OnErr, OnOk};
 ghost use Rattle.cc_io.specs.Answers.{AnswersInto};
+ghost use Rattle.cc_io.specs.Devices.{SendsBytes};
 ghost use Rattle.cli.specs.Devices.{FromInput, IsEnd, OnDevices, OnOutput, Traffic};
 ghost use Rattle.cli.specs.Input.{IsFile};
 ghost use Rattle.cc_formats.specs.Reading.{is_over};
@@ -12,7 +13,9 @@ ghost use Rattle.cli_replay.specs.Charting.{
   ChartsRest,
   TakesLines,
   begun_chart,
+  caption_of,
   charted,
+  charted_text,
   levels_of,
 };
 ghost use Rattle.cli_replay.specs.Settings.{IsForHeap};
@@ -20,9 +23,9 @@ ghost use Rattle.cli_replay.specs.Settings.{IsForHeap};
 use crate::memory::TraceMemory;
 use cc_draw::{Chart, Levels, write_chart};
 use cc_gaps::GapPlacer;
-use cc_io::{Answerer, IoError, Lines, Page, Pending, Sink, Source, Summary, pump};
+use cc_io::{Answerer, IoError, Line, Lines, Page, Pending, Sink, Source, Summary, pump};
 use cc_placer::Placer;
-use cc_replay::{Entry, Figures, MOST_SAMPLE, Progress, Reading, Replay, Settings};
+use cc_replay::{Entry, Figures, MOST_SAMPLE, Progress, Reading, Replay, Settings, push_policy};
 use cli::{Content, Discard, Fault, InputName, Inputs};
 use std::alloc::{AllocError, Global};
 use std::marker::Model;
@@ -67,11 +70,14 @@ impl<P: Placer> Charting<P> {
         self.replay.progress()
     }
 
-    /// Returns the chart.
-    fn chart(&self) -> &Chart
-        ensures { result.now ≡ self.now.chart }
+    /// Writes the chart, with the policy and the alignment of the heap above it, and flushes the sink.
+    fn write<W: Sink>(&self, sink: &mut W) -> Result<(), IoError>
+        requires { (W.state sink.old).has_failed ≡ false }
+        ensures sends { SendsBytes (W.state sink.old) (W.state sink.new) (charted_text self.now) result }
+        ensures write { OnErr result (result ≡ Err IoError.Write) }
     {
-        &self.chart
+        let caption = caption_of(self.replay.settings());
+        write_chart(&self.chart, caption.bytes(), sink)
     }
 
     /// Takes a line, and adds the levels of its event to the chart, if it is one.
@@ -95,6 +101,19 @@ impl<P: Placer> Charting<P> {
     {
         self.replay.end(rest, out)
     }
+}
+
+/// Returns the caption of the chart of a heap with these settings.
+fn caption_of(settings: Settings) -> Line
+    ensures value { result ≡ caption_of settings }
+    ensures fits { length result ≤ 192 }
+{
+    let mut caption = Line::new();
+    caption.push(b"policy ");
+    push_policy(&mut caption, settings.policy);
+    caption.push(b", alignment ");
+    caption.push_decimal(u128::from(settings.align.bytes()));
+    caption
 }
 
 /// Adds the levels of a line to the chart, if its entry is an event.
@@ -218,6 +237,6 @@ fn draw<M: TraceMemory, S: Source, W: Sink>(
     if let Progress::OutOfMemory = charting.progress() {
         return Err(Fault::Memory);
     }
-    write_chart(charting.chart(), sink)?;
+    charting.write(sink)?;
     Ok(summary)
 }

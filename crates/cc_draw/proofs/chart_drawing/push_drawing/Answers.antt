@@ -7,6 +7,7 @@ returns g c =
       c.push_markup-3.ensures.value,
       c.push_markup-2.ensures.value,
       c.push_legend.ensures.value,
+      c.push_caption.ensures.value,
       c.push_scaled.ensures.value,
       c.push_sheet.ensures.value,
       c.push_counts.ensures.value,

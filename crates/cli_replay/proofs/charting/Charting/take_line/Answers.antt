@@ -1,4 +1,4 @@
-use Rattle.std.proofs.Common.{◌≡◌, ap, false, subst, sym, ◌∙◌}
+use Rattle.std.proofs.Common.{◌≡◌, ap, false, subst, ◌∙◌}
 use Rattle.cc_io.specs.Answers.{AnswersInto}
 use Rattle.cc_formats.specs.Reading.{is_over}
 use Rattle.cli_replay.specs.Charting.{Charted, ChartsLine}
