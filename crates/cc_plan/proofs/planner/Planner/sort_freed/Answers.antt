@@ -19,4 +19,6 @@ invariant_of-self g c = record {
   freed_reserved = omega (arith, c.self.invariant.freed_reserved, c.sort_unstable.ensures.capacity);
   freed_is = listed_sorted c.self.inside.objects.items c.self.inside.freed.items c.sort_unstable.new.self.items
       c.sort_unstable.ensures.permutation c.self.invariant.freed_is;
+  live_reserved = c.self.invariant.live_reserved;
+  live_is = c.self.invariant.live_is;
 }
