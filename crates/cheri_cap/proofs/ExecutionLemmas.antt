@@ -1,5 +1,5 @@
 -- The effect of a command whose texts may be refused, from what its function promises.
-use Rattle.std.proofs.Common.{◌≡◌, Bool, false, Option, Result, Ok, Err, subst, sym}
+use Rattle.std.proofs.Common.{◌≡◌, Bool, Result, Ok, Err, subst, sym}
 use Rattle.std.specs.Prelude.{IfSome, IsOk, MatchResult}
 use Rattle.std.proofs.lemmas.Bool.{false≢true}
 use Rattle.cc_io.specs.CommandOutput.{WritesRefusal}
@@ -11,9 +11,8 @@ use Rattle.cli.specs.declared.invocation.Invocation.{Invocation}
 use Rattle.cli.specs.declared.fault.Fault.{Fault}
 use Rattle.cli.specs.Devices.{Console, OnDevices}
 use Rattle.cli.specs.Input.{IsFile}
-use Rattle.cli.proofs.DeviceLemmas.{on_devices-map}
 use Rattle.cli_scripts.specs.declared.report.Terminals.{Terminals}
-use Rattle.cheri_cap.specs.Execution.{Asked, Effect, IsUnasked, effect_of, with_values}
+use Rattle.cheri_cap.specs.Execution.{Effect, IsUnasked, effect_of, with_values}
 
 -- A claim on the effect of a command, from one on that of an equal one.
 pub of_equal : (P : Effect → Type 0) (terminals : Terminals) (one other : Invocation) → one ≡ other → P (effect_of terminals other) → P (effect_of terminals one)

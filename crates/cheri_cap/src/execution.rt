@@ -15,9 +15,8 @@ use cli_words::{annotate_file, ask, decode_file, round_file};
 /// Executes a command: reads its input, writes its output to `sink`, and reports a run on `errors`. If standard error
 /// is a terminal, each command writes its hints there too.
 ///
-/// BASE and LENGTH of `plan` and `map`, the numbers and names of `decode`, the base of `round` and the texts of
-/// `replay` are read first. If one is refused, the output is that refusal, and nothing is read. The machine or the heap
-/// is created next, and then the input is opened.
+/// BASE and LENGTH of `plan` and `map` and the texts of `replay` are read first. If one is refused, the output is that
+/// refusal, and nothing is read. The machine or the heap is created next, and then the input is opened.
 ///
 /// Requires: no device has failed.
 /// Errors: `Memory`, `Open`, `Read` and `Write`, each if and only if an allocation, the opening of the command's input,
@@ -98,13 +97,13 @@ pub fn execute<M: RunMemory + TraceMemory, I: Inputs, W: Sink, E: Sink>(
         Invocation::Decode {
             input,
             format,
-            texts,
+            values,
             file,
         } => {
             decode_file(
                 input,
                 format,
-                texts,
+                values,
                 terminals.errors,
                 inputs,
                 source,

@@ -1,6 +1,6 @@
 -- The values of `explain` that are accepted together, and the errors of the program's arguments.
 use Rattle.std.proofs.Common.{◌≡◌, Bool, true, false, List, [], ◌∷◌, Option, Some, None, inl, inr, is_some, refl, subst, sym, option_map}
-use Rattle.std.specs.Prelude.{◌&&◌, Result, Ok, Err, not, unwrap_or}
+use Rattle.std.specs.Prelude.{◌&&◌, Result, Ok, Err, not}
 use Rattle.std.specs.Borrow.{Bor}
 use Rattle.std.specs.Result.{IfErr}
 use Rattle.clap.specs.Kinds.{or_else}
@@ -9,39 +9,48 @@ use Rattle.clap.specs.Words.{App, FailsBy, HasKind, Kinds, fault_of, kind_of, su
 use Rattle.clap.specs.declared.error.Error.{Error}
 use Rattle.clap.specs.declared.error.kind.ErrorKind.{ErrorKind}
 use Rattle.clap.specs.declared.error.kind.ErrorKind.TheVariants.{OutOfMemory}
-use Rattle.cli.specs.Invocation.{choice_fault, choice_fault_in, faults_of, is_taken, kinds_in, list_fault}
+use Rattle.cli.specs.Invocation.{choice_fault, choice_fault_in, faults_of, is_taken, kinds_in, list_fault, value_fault}
 
 -- ---- the values of `explain`
 
 -- WORD excludes the options of a length.
-pub word_alone : (size base : Option Text) (svg : Bool) → choice_fault true (is_some size) (is_some base) svg ≡ None
+pub word_alone : (size base : Option Text) (svg is_address : Bool) → choice_fault true (is_some size) (is_some base) svg is_address ≡ None
     → (size ≡ None) × (base ≡ None)
-word_alone None None svg e = (refl, refl)
-word_alone None (Some text) svg e = cc e
-word_alone (Some text) base svg e = cc e
+word_alone None None svg is_address e = (refl, refl)
+word_alone None (Some text) svg is_address e = cc e
+word_alone (Some text) base svg is_address e = cc e
 
--- Without WORD, `--length` is required, and excludes `--svg`.
-pub length_wanted : (size base : Option Text) (svg : Bool) → choice_fault false (is_some size) (is_some base) svg ≡ None
-    → ((text : Text) × (size ≡ Some text)) × (svg ≡ false)
-length_wanted None base svg e = cc e
-length_wanted (Some text) base true e = cc e
-length_wanted (Some text) base false e = ((text, refl), refl)
+-- Without WORD, `--length` is required, and excludes `--svg`; the base is an address.
+pub length_wanted : (size base : Option Text) (svg is_address : Bool) → choice_fault false (is_some size) (is_some base) svg is_address ≡ None
+    → ((text : Text) × (size ≡ Some text)) × (svg ≡ false) × (is_address ≡ true)
+length_wanted None base svg is_address e = cc e
+length_wanted (Some text) base true is_address e = cc e
+length_wanted (Some text) base false false e = cc e
+length_wanted (Some text) base false true e = ((text, refl), refl, refl)
 
--- The default of a text that is not given.
-pub text_or : (given : Option (Bor Text)) (other : Bor Text)
-    → (unwrap_or given other).now ≡ unwrap_or (option_map (λ text. text.now) given) other.now
-text_or None other = refl
-text_or (Some text) other = refl
+-- `--list` excludes N, and the base is an address.
+pub list_alone : (size : Option Text) (is_address : Bool) → list_fault true (is_some size) is_address ≡ None → (size ≡ None) × (is_address ≡ true)
+list_alone None true e = (refl, refl)
+list_alone None false e = cc e
+list_alone (Some text) is_address e = cc e
 
--- `--list` excludes N.
-pub list_alone : (size : Option Text) → list_fault true (is_some size) ≡ None → size ≡ None
-list_alone None e = refl
-list_alone (Some text) e = cc e
+-- Without `--list`, N is required, and the base is an address.
+pub size_wanted : (size : Option Text) (is_address : Bool) → list_fault false (is_some size) is_address ≡ None
+    → ((text : Text) × (size ≡ Some text)) × (is_address ≡ true)
+size_wanted None is_address e = cc e
+size_wanted (Some text) false e = cc e
+size_wanted (Some text) true e = ((text, refl), refl)
 
--- Without `--list`, N is required.
-pub size_wanted : (size : Option Text) → list_fault false (is_some size) ≡ None → (text : Text) × (size ≡ Some text)
-size_wanted None e = cc e
-size_wanted (Some text) e = (text, refl)
+-- ---- the values of `decode`
+
+-- Values that have no error are all read.
+pub all_read : (skip at holds perms : Bool) → value_fault (skip && (at && (holds && perms))) ≡ None
+    → (skip ≡ true) × (at ≡ true) × (holds ≡ true) × (perms ≡ true)
+all_read true true true true e = (refl, refl, refl, refl)
+all_read true true true false e = cc e
+all_read true true false perms e = cc e
+all_read true false holds perms e = cc e
+all_read false at holds perms e = cc e
 
 -- A text is given if and only if it has a value.
 pub is_some-now : (found : Option (Bor Text)) → is_some found ≡ is_some (option_map (λ text. text.now) found)

@@ -484,7 +484,7 @@ module _ (aligns : Bor (List (Bor Text))) (are : texts aligns.now ≡ codes "1" 
       (taken decode.rules (codes "format") (filled (choice_option (codes "format") formats)) rows (level-given decode [] words false [] decode_gives e) refl) in
       let order = has_choice input_named (codes "bytes") order_names order_read orders are_orders rows
       (taken decode.rules (codes "bytes") (filled (choice_option (codes "bytes") orders)) rows (level-given decode [] words false [] decode_gives e) refl) in
-      (codes "decode", rows, refl, (format, order))
+      (codes "decode", rows, refl, (format, order, choice))
 
   abbrev AllServe : List Shape → Type 0
   AllServe [] = ⊤

@@ -1,5 +1,5 @@
 -- The command lines that are accepted, and the command that each requests.
-use Rattle.std.specs.Prelude.{cond, ⊤, true, false, ◌≡◌, ◌≤◌, ◌⊎◌, ◌↔◌, ◌&&◌, ◌||◌, ℕ, Bool, IsTrue, not, List, [], ◌∷◌, Option, Some, None, IfSome, IsSome, is_some, codes, option_map, unwrap_or, if◌then◌else◌}
+use Rattle.std.specs.Prelude.{cond, ⊤, true, false, ◌≡◌, ◌≤◌, ◌⊎◌, ◌↔◌, ◌&&◌, ◌||◌, ℕ, Bool, IsTrue, not, List, [], ◌∷◌, Option, Some, None, IfSome, IsSome, is_ok, is_some, codes, option_map, unwrap_or, Result, Ok, if◌then◌else◌}
 use Rattle.std.specs.Borrow.{Bor}
 use Rattle.std.specs.Option.{option_map_or}
 use Rattle.std.specs.Str.{bytes_eq}
@@ -9,10 +9,12 @@ use Rattle.clap.specs.Kinds.{or_else}
 use Rattle.clap.specs.Walk.{texts}
 use Rattle.clap.specs.Words.{App, Kinds, Row, Text, fault_of, first_of, one_of, subcommand_of, takes}
 use Rattle.clap.specs.declared.error.kind.ErrorKind.{ErrorKind}
-use Rattle.clap.specs.declared.error.kind.ErrorKind.TheVariants.{ArgumentConflict, MissingRequiredArgument}
+use Rattle.clap.specs.declared.error.kind.ErrorKind.TheVariants.{ArgumentConflict, MissingRequiredArgument, ValueValidation}
+use Rattle.cc_word.specs.declared.refusal.Refusal.{Refusal}
 use Rattle.cc_bounds.specs.declared.align.Align.{Align}
 use Rattle.cc_bounds.specs.declared.align.Align.TheVariants.{One, Sixteen}
-use Rattle.cli.specs.declared.invocation.DecodeTexts.{DecodeTexts}
+use Rattle.cc_values.specs.Values.{address_in, permissions_in}
+use Rattle.cli.specs.declared.invocation.DecodeValues.{DecodeValues}
 use Rattle.cli.specs.declared.invocation.PoolTexts.{PoolTexts}
 use Rattle.cli.specs.declared.invocation.ReplayOutput.{ReplayOutput}
 use Rattle.cli.specs.declared.invocation.ReplayOutput.TheVariants.{Summary, Sizes, Chart, Script, Series}
@@ -27,6 +29,7 @@ use Rattle.cc_io.specs.declared.format.Format.TheVariants.{Columns, Csv, Fixed}
 use Rattle.cc_io.specs.declared.format.Format.TheVariants as format
 use Rattle.cli.specs.declared.invocation.Invocation.{Invocation}
 use Rattle.cli.specs.declared.invocation.Invocation.TheVariants.{Annotate, Ask, Decode, Map, Plan, Replay, RoundList, Run}
+use Rattle.cli.specs.declared.question.Base.{Base}
 use Rattle.cli.specs.declared.question.Question.{Question}
 use Rattle.cli.specs.declared.question.Question.TheVariants.{DrawWindow, Explain, ExplainLength, Round, Show}
 
@@ -50,6 +53,14 @@ IsChosen named default (Some text) value = named text ≡ Some value
 -- The alignment that a text names, if it names one.
 abbrev pub align_named : Text → Option Align
 align_named text = if bytes_eq text (codes "1") then Some One else if bytes_eq text (codes "16") then Some Sixteen else None
+
+-- `IsRead` holds if the value is the one that the given text is read as, or `None` if no text is given.
+abbrev pub IsRead : {A : Type 0} → (read : Text → Result A Refusal) → (given : Option Text) → Option A → Type 0
+IsRead read given value = option_map read given ≡ option_map Ok value
+
+-- Whether a text that is given is read as a value.
+abbrev pub is_read : {A : Type 0} → (read : Text → Result A Refusal) → (given : Option Text) → Bool
+is_read read given = option_map_or (λ text. is_ok (read text)) given true
 
 -- The format that a text names, if it names one.
 abbrev pub format_named : Text → Option Format
@@ -95,7 +106,7 @@ command_name_of (Run limit stats file) = codes "run"
 command_name_of (Plan limit pool align stats file) = codes "plan"
 command_name_of (Map limit pool align svg file) = codes "map"
 command_name_of (Replay align strict texts file) = codes "replay"
-command_name_of (Decode input format texts file) = codes "decode"
+command_name_of (Decode input format values file) = codes "decode"
 command_name_of (Annotate file) = codes "annotate"
 command_name_of (RoundList base file) = codes "round"
 
@@ -112,12 +123,13 @@ abbrev pub HasWordAlone : List Row → (word : Text) → Type 0
 HasWordAlone rows word =
     (first_of (codes "word") rows ≡ Some word) × (first_of (codes "length") rows ≡ None) × (first_of (codes "base") rows ≡ None)
 
--- `HasDecodeTexts` holds if the texts are the values of these options, or `None` for those that are not given.
-pub record HasDecodeTexts (rows : List Row) (texts : DecodeTexts) : Type 0 where
-  pub skip : first_of (codes "skip") rows ≡ option_map (λ text. text.now) texts.skip
-  pub at : first_of (codes "at") rows ≡ option_map (λ text. text.now) texts.at
-  pub holds : first_of (codes "holds") rows ≡ option_map (λ text. text.now) texts.holds
-  pub perms : first_of (codes "perms") rows ≡ option_map (λ text. text.now) texts.perms
+-- `HasDecodeValues` holds if the numbers and the permissions are those that the values of these options are, or `None` for those that
+-- are not given.
+pub record HasDecodeValues (rows : List Row) (values : DecodeValues) : Type 0 where
+  pub skip : IsRead address_in (first_of (codes "skip") rows) values.skip
+  pub at : IsRead address_in (first_of (codes "at") rows) values.at
+  pub holds : IsRead address_in (first_of (codes "holds") rows) values.holds
+  pub perms : IsRead permissions_in (first_of (codes "perms") rows) values.perms
 
 -- The output of `replay` by the format of tables and the options that are given: the summary without one. `None` if two are given.
 abbrev pub replay_output : SummaryFormat → (sizes svg script : Bool) → (each : Option (Bor Text)) → Option ReplayOutput
@@ -148,9 +160,14 @@ pub record HasReplayTexts (rows : List Row) (texts : ReplayTexts) : Type 0 where
   pub format : first_of (codes "format") rows ≡ option_map (λ text. text.now) texts.format
   pub output : HasOutput rows texts.output
 
+-- `IsBase` holds if the base has this text and its address.
+abbrev pub IsBase : Text → Base → Type 0
+IsBase text base = (base.text.now ≡ text) × (address_in text ≡ Ok base.address)
+
 -- `HasBase` holds if the base is the value of `--base`, or `None` if it is not given.
-abbrev pub HasBase : List Row → Option (Bor Text) → Type 0
-HasBase rows base = first_of (codes "base") rows ≡ option_map (λ text. text.now) base
+abbrev pub HasBase : List Row → Option Base → Type 0
+HasBase rows None = first_of (codes "base") rows ≡ None
+HasBase rows (Some base) = (text : Text) × (first_of (codes "base") rows ≡ Some text) × IsBase text base
 
 -- `HasTexts` holds if the texts of the question are the values that clap found. The arguments of `explain` that the
 -- question has no text for have no value, and a missing `--base` is `0`.
@@ -162,7 +179,7 @@ HasTexts rows (Explain word) = HasWordAlone rows word.now × (is_on (first_of (c
 HasTexts rows (DrawWindow word) = HasWordAlone rows word.now × (is_on (first_of (codes "svg") rows) ≡ true)
 HasTexts rows (ExplainLength base size) =
     (first_of (codes "word") rows ≡ None) × (first_of (codes "length") rows ≡ Some size.now)
-    × (base.now ≡ unwrap_or (first_of (codes "base") rows) (codes "0")) × (is_on (first_of (codes "svg") rows) ≡ false)
+    × IsBase (unwrap_or (first_of (codes "base") rows) (codes "0")) base × (is_on (first_of (codes "svg") rows) ≡ false)
 
 -- `HasValues` holds if the values of the command are those that clap found.
 abbrev pub HasValues : List Row → Invocation → Type 0
@@ -178,9 +195,9 @@ HasValues rows (Map limit pool align svg file) =
 HasValues rows (Replay align strict texts file) =
     IsChosen align_named One (first_of (codes "align") rows) align × IsGiven (first_of (codes "strict") rows) strict
     × HasReplayTexts rows texts × HasFile rows file
-HasValues rows (Decode input format texts file) =
+HasValues rows (Decode input format values file) =
     IsChosen format_named Columns (first_of (codes "format") rows) format
-    × IsChosen input_named Lines (first_of (codes "bytes") rows) input × HasDecodeTexts rows texts × HasFile rows file
+    × IsChosen input_named Lines (first_of (codes "bytes") rows) input × HasDecodeValues rows values × HasFile rows file
 HasValues rows (Annotate file) = HasFile rows file
 HasValues rows (RoundList base file) =
     HasBase rows base × (first_of (codes "list") rows ≡ Some file.now) × (first_of (codes "length") rows ≡ None)
@@ -189,39 +206,57 @@ HasValues rows (RoundList base file) =
 abbrev pub IsInvocation : Option (Text × List Row) → Invocation → Type 0
 IsInvocation found invocation = (rows : List Row) × (found ≡ Some (command_name_of invocation, rows)) × HasValues rows invocation
 
--- ---- the values of `explain` and of `round` that are accepted together, which clap does not check
+-- ---- what clap does not check of the values of `explain`, `round` and `decode`: that they are accepted together, and are numbers or
+-- permissions
+
+-- The kind of error of a value, if it is not of its form.
+abbrev pub value_fault : (is_read : Bool) → Option ErrorKind
+value_fault is_read = if is_read then None else Some ValueValidation
 
 -- The kind of error of the given values, if there is one: WORD excludes `--length` and `--base`, one of WORD and
--- `--length` is required, and `--length` excludes `--svg`.
-abbrev pub choice_fault : (has_word has_length has_base has_svg : Bool) → Option ErrorKind
-choice_fault has_word has_length has_base has_svg =
+-- `--length` is required, `--length` excludes `--svg`, and the base is an address.
+abbrev pub choice_fault : (has_word has_length has_base has_svg is_address : Bool) → Option ErrorKind
+choice_fault has_word has_length has_base has_svg is_address =
     if has_word then (if has_length || has_base then Some ArgumentConflict else None)
     else if not has_length then Some MissingRequiredArgument
-    else if has_svg then Some ArgumentConflict else None
+    else if has_svg then Some ArgumentConflict else value_fault is_address
 
 -- The kind of error of the values of `explain` in these rows, if there is one.
 abbrev pub choice_fault_of : List Row → Option ErrorKind
 choice_fault_of rows =
     choice_fault (is_some (first_of (codes "word") rows)) (is_some (first_of (codes "length") rows)) (is_some (first_of (codes "base") rows))
-    (is_on (first_of (codes "svg") rows))
+    (is_on (first_of (codes "svg") rows)) (is_read address_in (first_of (codes "base") rows))
 
--- The kind of error of the given values, if there is one: one of N and `--list` is required, and each excludes the other.
-abbrev pub list_fault : (has_list has_length : Bool) → Option ErrorKind
-list_fault has_list has_length =
-    if has_list then (if has_length then Some ArgumentConflict else None)
-    else if has_length then None else Some MissingRequiredArgument
+-- The kind of error of the given values, if there is one: one of N and `--list` is required, each excludes the other, and the base is an
+-- address.
+abbrev pub list_fault : (has_list has_length is_address : Bool) → Option ErrorKind
+list_fault has_list has_length is_address =
+    if has_list && has_length then Some ArgumentConflict
+    else if has_list || has_length then value_fault is_address else Some MissingRequiredArgument
 
 -- The kind of error of the values of `round` in these rows, if there is one.
 abbrev pub list_fault_of : List Row → Option ErrorKind
-list_fault_of rows = list_fault (is_some (first_of (codes "list") rows)) (is_some (first_of (codes "length") rows))
+list_fault_of rows =
+    list_fault (is_some (first_of (codes "list") rows)) (is_some (first_of (codes "length") rows)) (is_read address_in (first_of (codes "base") rows))
 
--- The kind of error of the values of the command that clap found, if there is one: only `explain` and `round` have one.
+-- The kind of error of the values of `decode` in these rows, if there is one.
+abbrev pub search_fault_of : List Row → Option ErrorKind
+search_fault_of rows = value_fault
+    (is_read address_in (first_of (codes "skip") rows) && (is_read address_in (first_of (codes "at") rows)
+    && (is_read address_in (first_of (codes "holds") rows) && is_read permissions_in (first_of (codes "perms") rows))))
+
+-- The kind of error of these values of the command of this name, if there is one: only `explain`, `round` and `decode` have one.
+abbrev pub named_fault : (name : Text) → List Row → Option ErrorKind
+named_fault name rows =
+    if bytes_eq name (codes "explain") then choice_fault_of rows
+    else if bytes_eq name (codes "round") then list_fault_of rows
+    else if bytes_eq name (codes "decode") then search_fault_of rows
+    else None
+
+-- The kind of error of the values of the command that clap found, if there is one.
 abbrev pub choice_fault_in : Option (Text × List Row) → Option ErrorKind
 choice_fault_in None = None
-choice_fault_in (Some found) =
-    if bytes_eq found.0 (codes "explain") then choice_fault_of found.1
-    else if bytes_eq found.0 (codes "round") then list_fault_of found.1
-    else None
+choice_fault_in (Some found) = named_fault found.0 found.1
 
 -- Whether the arguments are accepted: clap accepts them, and their values have no error.
 abbrev pub is_taken : App → List Text → Bool
@@ -232,7 +267,7 @@ abbrev pub kinds_in : Option ErrorKind → Kinds
 kinds_in None = []
 kinds_in (Some kind) = kind ∷ []
 
--- The kinds of error that the arguments can give: clap's, or the kind for `explain` or `round` if clap has none.
+-- The kinds of error that the arguments can give: clap's, or that of the values if clap has none.
 abbrev pub faults_of : App → List Text → Kinds
 faults_of app words = or_else (fault_of app words) (kinds_in (choice_fault_in (subcommand_of app words)))
 
@@ -275,7 +310,7 @@ HasWanted name rows =
     (cond (bytes_eq name (codes "plan")) (HasPoolTexts rows × HasLimit rows × HasChoice align_named (codes "align") rows × HasFlag (codes "stats") rows)
     (cond (bytes_eq name (codes "map")) (HasPoolTexts rows × HasLimit rows × HasChoice align_named (codes "align") rows × HasFlag (codes "svg") rows)
     (cond (bytes_eq name (codes "replay")) (HasChoice align_named (codes "align") rows × HasFlag (codes "strict") rows × HasChoice summary_named (codes "summary") rows)
-    (cond (bytes_eq name (codes "decode")) (HasChoice format_named (codes "format") rows × HasChoice input_named (codes "bytes") rows)
+    (cond (bytes_eq name (codes "decode")) (HasChoice format_named (codes "format") rows × HasChoice input_named (codes "bytes") rows × (search_fault_of rows ≡ None))
     (cond (bytes_eq name (codes "annotate")) ⊤
     (cond (bytes_eq name (codes "explain")) (choice_fault_of rows ≡ None) ⊥))))))))
 

@@ -8,7 +8,7 @@ use Rattle.clap.specs.declared.builder.value_parser.ValueParser.TheVariants.{Nam
 use Rattle.cli.specs.declared.table.Choices.{Choices}
 use Rattle.cli.specs.declared.table.CommandRow.{CommandRow}
 use Rattle.cli.specs.declared.table.Kind.{Kind}
-use Rattle.cli.specs.declared.table.Kind.TheVariants.{Align, Flag, Format, Free, Order, Slots, Summary, Valued, Wanted}
+use Rattle.cli.specs.declared.table.Kind.TheVariants.{Address, Align, Flag, Format, Free, Order, Permissions, Slots, Summary, Valued, Wanted}
 use Rattle.cli.specs.declared.table.Row.{Row}
 
 -- An optional argument.
@@ -176,6 +176,8 @@ abbrev pub kind_rule : Choices → Kind → Text → Rule
 kind_rule choices Wanted name = wanted_argument name
 kind_rule choices Free name = optional_argument name
 kind_rule choices Valued name = valued_option name
+kind_rule choices Address name = valued_option name
+kind_rule choices Permissions name = valued_option name
 kind_rule choices Flag name = flag_option name
 kind_rule choices Slots name = record (valued_option name) { parser = Some (Signed (pos 1) (pos 65536)) }
 kind_rule choices Align name = choice_option name choices.aligns

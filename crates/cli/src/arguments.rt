@@ -22,7 +22,7 @@ pub(crate) fn argument<'a>(alloc: Global, row: &Row<'a>, choices: Choices<'a>) -
     let parser = match row.kind {
         Kind::Wanted => return taken.required(true),
         Kind::Free | Kind::Flag => return taken,
-        Kind::Valued => return taken.long(row.name),
+        Kind::Valued | Kind::Address | Kind::Permissions => return taken.long(row.name),
         Kind::Slots => ValueParser::Signed(1, 65_536),
         Kind::Align => ValueParser::Names(choices.aligns),
         Kind::Format => ValueParser::Names(choices.formats),

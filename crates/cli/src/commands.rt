@@ -5,10 +5,7 @@ ghost use Rattle.clap.specs.declared.builder.command.Command.TheViews.{out-Comma
 ghost use Rattle.cli.specs.Usage.{bare_program, command_of, explain_command, program, with_arguments};
 
 use crate::arguments::argument;
-use crate::help::{
-    ABOUT, AFTER_HELP, EXPLAIN_ABOUT, EXPLAIN_AFTER_HELP, EXPLAIN_USAGE, ROUND_ABOUT,
-    ROUND_AFTER_HELP, ROUND_USAGE, VERSION,
-};
+use crate::help::{ABOUT, AFTER_HELP, EXPLAIN_ABOUT, EXPLAIN_AFTER_HELP, EXPLAIN_USAGE, VERSION};
 use crate::table::{Choices, CommandRow, Row, about, after_help, commands, explain_rows};
 use clap::Command;
 use std::alloc::{AllocError, Global};
@@ -79,13 +76,6 @@ pub fn explain_command<'a>(alloc: Global) -> Result<Command<'a>, AllocError>
         explain_rows(),
         choices,
     )
-}
-
-/// Returns the command `round` without its arguments, for the message of an error.
-pub fn bare_round_command<'a>(alloc: Global) -> Command<'a>
-    ensures { app_of result ≡ new_app (codes "round") }
-{
-    bare_command(alloc, "round", ROUND_ABOUT, ROUND_AFTER_HELP).override_usage(ROUND_USAGE)
 }
 
 /// Returns the command with these arguments added.

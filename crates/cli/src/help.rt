@@ -44,7 +44,7 @@ cheri-cap explain [--svg] <WORD>
        cheri-cap explain --length <N> [--base <B>]";
 
 /// The message if the values of `explain` do not go together.
-pub const EXPLAIN_CHOICE: &str =
+pub(crate) const EXPLAIN_CHOICE: &str =
     "give either WORD and optionally `--svg`, or `--length N` and optionally `--base B`";
 
 pub(crate) const WINDOW_SVG_HELP: &str =
@@ -69,8 +69,8 @@ address.
 For N bytes at B, prints: the granule, the unit in which their bounds are stored, and why half of it
 is too small; the granted bounds; the bytes lost before and after; the length and the alignment of
 the base that lose none; the word of the root capability with these bounds. Prints `error 1 syntax`
-if N or B is not a number, `error 4 range` if one is too large, and `error 9 bounds` if B + N is
-above 2^64, with exit status 1.
+if N is not a number, `error 4 range` if it is too large, and `error 9 bounds` if B + N is above
+2^64, with exit status 1.
 
 Example:
   cheri-cap explain --length 8191 --base 0x10068
@@ -90,10 +90,10 @@ cheri-cap round [--base <B>] <N>
        cheri-cap round [--base <B>] --list <FILE>";
 
 /// The message if the values of `round` do not go together.
-pub const ROUND_CHOICE: &str = "give either N or `--list FILE`";
+pub(crate) const ROUND_CHOICE: &str = "give either N or `--list FILE`";
 
 pub(crate) const ROUND_BASE_HELP: &str =
-    "Also show the bounds granted to N bytes from address B; B is a number like N";
+    "Also show the bounds granted to N bytes from address B; B is a number below 2^64, like N";
 
 pub(crate) const LIST_HELP: &str =
     "Read the lengths from FILE, one on each line; `-` is standard input";
@@ -116,7 +116,7 @@ With --list, prints one line for each line of FILE, in order. For a line of more
 prints `error 3 long`, and for an unterminated last line `error 2 unfinished`.
 
 For input that is not a number, prints `error 1 syntax`, for a number above 2^64 `error 4 range`, and
-if B + N is above 2^64 `error 9 bounds`, each with exit status 1. If B is refused, prints only that.
+if B + N is above 2^64 `error 9 bounds`, each with exit status 1.
 
 Examples:
   cheri-cap round 8191
@@ -300,6 +300,16 @@ Example:
   line,event,time,made.asked,objects,asked,live,quarantine,held,peak.quarantine,peak.held,high,sweeps,why
   2,2,0,8291,2,8291,8292,0,8292,0,8292,8304,0,each
   3,3,0,8291,1,8191,8192,100,8292,100,8292,8304,0,end";
+
+/// The form of an address, for the message of an error.
+pub(crate) const ADDRESS_FORM: &str =
+    "want a number below 2^64: decimal digits, or 0x and hexadecimal digits";
+
+/// The form of permissions, for the message of an error.
+pub(crate) const PERMISSIONS_FORM: &str =
+    "want names of permissions joined by `+`, as `LOAD+STORE_CAP`, or `-` for none";
+
+pub(crate) const DECODE_USAGE: &str = "cheri-cap decode [OPTIONS] [FILE]";
 
 pub(crate) const DECODE_ABOUT: &str = "Decodes words, one on each line";
 

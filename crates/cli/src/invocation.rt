@@ -1,7 +1,8 @@
 //! The command that a command line requests.
-use crate::question::Question;
+use crate::question::{Base, Question};
 use cc_bounds::Align;
 use cc_io::{Format, InputForm};
+use cc_word::Perms;
 
 /// The bounds of a pool, as they were typed.
 #[derive(Clone, Copy)]
@@ -12,17 +13,17 @@ pub struct PoolTexts<'a> {
     pub length: &'a str,
 }
 
-/// The values of the options of `decode` that are numbers or names, as they were typed.
+/// The values of the options of `decode` that are numbers or names.
 #[derive(Clone, Copy)]
-pub struct DecodeTexts<'a> {
+pub struct DecodeValues {
     /// The number of bytes to skip.
-    pub skip: Option<&'a str>,
+    pub skip: Option<u64>,
     /// The address of the first word.
-    pub at: Option<&'a str>,
+    pub at: Option<u64>,
     /// The address that bounds contain.
-    pub holds: Option<&'a str>,
-    /// The names of permissions.
-    pub perms: Option<&'a str>,
+    pub holds: Option<u64>,
+    /// The permissions that a word has.
+    pub perms: Option<Perms>,
 }
 
 /// The format of the summary of `replay`.
@@ -129,15 +130,15 @@ pub enum Invocation<'a> {
         input: InputForm,
         /// The format of the output.
         format: Format,
-        /// The values of the other options, as they were typed.
-        texts: DecodeTexts<'a>,
+        /// The values of the other options.
+        values: DecodeValues,
         /// The words' file; `None` and `-` are standard input.
         file: Option<&'a str>,
     },
     /// `round [--base B] --list FILE`: rounds each length of a list.
     RoundList {
-        /// The base of each request, as it was typed.
-        base: Option<&'a str>,
+        /// The base of each request.
+        base: Option<Base<'a>>,
         /// The list's file; `-` is standard input.
         file: &'a str,
     },

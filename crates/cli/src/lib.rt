@@ -11,6 +11,7 @@ mod help;
 mod input;
 mod invocation;
 mod memory;
+mod mistakes;
 mod notices;
 mod outcome;
 mod process_inputs;
@@ -20,17 +21,16 @@ mod table;
 mod values;
 mod watched;
 
-pub use commands::{bare_round_command, explain_command, program};
+pub use commands::{explain_command, program};
 pub use discard::Discard;
 pub use error_writer::ErrorWriter;
 pub use fault::Fault;
-pub use help::{EXPLAIN_CHOICE, ROUND_CHOICE};
 pub use input::{Content, InputName, Inputs, file_input};
 pub use invocation::{
-    DecodeTexts, Invocation, PoolTexts, ReplayOutput, ReplayTexts, SummaryFormat,
+    DecodeValues, Invocation, PoolTexts, ReplayOutput, ReplayTexts, SummaryFormat,
 };
 pub use memory::{GlobalMemory, Memory};
 pub use outcome::{Ending, ending_of, ending_status, finish, status, tell};
 pub use process_inputs::{ProcessInputs, no_input};
-pub use question::Question;
+pub use question::{Base, Question};
 pub use reading::read_words;

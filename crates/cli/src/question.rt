@@ -1,7 +1,16 @@
 //! A question about one word or one length.
 
-/// A question of `show`, `round` or `explain`, with the texts as they were typed: any text is possible in place of a
-/// word or a number.
+/// The value of `--base`.
+#[derive(Clone, Copy)]
+pub struct Base<'a> {
+    /// The value as it was typed.
+    pub text: &'a str,
+    /// The address.
+    pub address: u64,
+}
+
+/// A question of `show`, `round` or `explain`, with words and lengths as they were typed: any text is possible in place
+/// of a word or a length.
 #[derive(Clone, Copy)]
 pub enum Question<'a> {
     /// `show [--line] WORD`: the listing of a word, or its line.
@@ -14,7 +23,7 @@ pub enum Question<'a> {
     /// `round [--base B] N`: how setting bounds rounds a length.
     Round {
         /// The base of the request, if the bounds that it is granted are shown.
-        base: Option<&'a str>,
+        base: Option<Base<'a>>,
         /// The length.
         length: &'a str,
     },
@@ -30,8 +39,8 @@ pub enum Question<'a> {
     },
     /// `explain --length N [--base B]`: the bounds that setting bounds grants.
     ExplainLength {
-        /// The first of the requested bytes; `0` if `--base` was not given.
-        base: &'a str,
+        /// The first of the requested bytes; 0 if `--base` was not given.
+        base: Base<'a>,
         /// The number of requested bytes.
         length: &'a str,
     },

@@ -6,20 +6,20 @@ ghost use Rattle.clap.specs.Words.{subcommand_rows_of};
 ghost use Rattle.cli.specs.Invocation.{HasChoice, HasFlag, HasItsTexts, HasLimit, HasPoolTexts, HasText, HasValues};
 ghost use Rattle.cli.specs.Invocation.{HasWanted, IsInvocation, IsProgram, align_named, choice_fault_in};
 ghost use Rattle.cli.specs.Invocation.{choice_fault_of, command_name_of, faults_of, format_named, format_names};
-ghost use Rattle.cli.specs.Invocation.{input_named, is_taken, kinds_in, list_fault_of, order_names, summary_named};
-ghost use Rattle.cli.specs.Invocation.{summary_names};
+ghost use Rattle.cli.specs.Invocation.{input_named, is_taken, kinds_in, list_fault_of, named_fault, order_names};
+ghost use Rattle.cli.specs.Invocation.{search_fault_of, summary_named, summary_names, value_fault};
 
-use crate::commands::{bare_round_command, explain_command, program};
-use crate::help::{EXPLAIN_CHOICE, ROUND_CHOICE};
+use crate::commands::program;
 use crate::invocation::Invocation;
+use crate::mistakes::mistake;
 use crate::question::Question;
 use crate::values::{
-    align_of, base_of, decode_texts, format_of, input_of, is_given, is_on, limit_of, pool_texts,
-    replay_texts, value_of, wanted_text,
+    align_of, are_permissions, base_of, base_or_zero, decode_values, format_of, input_of,
+    is_address, is_given, is_on, limit_of, pool_texts, replay_texts, value_of, wanted_text,
 };
 use clap::error::ErrorKind;
 use clap::{ArgMatches, Error};
-use std::alloc::{AllocError, Global};
+use std::alloc::Global;
 
 /// Reads the program's arguments, its own name first, as a command and its values.
 ///
@@ -82,8 +82,7 @@ fn summaries<'a>() -> &'a [&'a str]
     &["text", "csv", "json"]
 }
 
-/// Returns what clap found, or the error of the values of `explain` or of `round` that exclude each other or are
-/// missing.
+/// Returns what clap found, or the error of values that exclude each other, are missing, or are not of their form.
 fn chosen<'a>(alloc: Global, matches: ArgMatches<'a>) -> Result<ArgMatches<'a>, Error>
     ensures read { IfOk result (λ chosen. (chosen ≡ matches.entry)
         × (choice_fault_in (subcommand_rows_of matches.entry) ≡ None)) }
@@ -91,34 +90,69 @@ fn chosen<'a>(alloc: Global, matches: ArgMatches<'a>) -> Result<ArgMatches<'a>, 
 {
     match choice_fault(&matches) {
         None => Ok(matches),
-        Some(kind) => Err(choice_error(alloc, &matches, kind)?),
+        Some(kind) => Err(mistake(alloc, &matches, kind)?),
     }
 }
 
-/// Returns the kind of error of the values of `explain` or of `round`, if there is one.
+/// Returns the kind of error of the values of `explain`, `round` or `decode`, if there is one.
 fn choice_fault(matches: &ArgMatches<'_>) -> Option<ErrorKind>
     ensures { result ≡ choice_fault_in (subcommand_rows_of matches.now) }
 {
-    if let Some(explain) = matches.subcommand_matches("explain") {
-        return word_fault(explain);
+    match matches.subcommand() {
+        Some((name, values)) => named_fault(name, values),
+        None => None,
     }
-    list_fault(matches.subcommand_matches("round")?)
 }
 
-/// Returns the kind of error of the values of `round`, if there is one: one of N and `--list` is required, and each
-/// excludes the other.
+/// Returns the kind of error of the values of the command of this name, if there is one.
+fn named_fault(name: &str, values: &ArgMatches<'_>) -> Option<ErrorKind>
+    ensures { result ≡ named_fault name.now (rows_of (found_of values.now)) }
+{
+    match name {
+        "explain" => word_fault(values),
+        "round" => list_fault(values),
+        "decode" => search_fault(values),
+        _ => None,
+    }
+}
+
+/// Returns the kind of error of the values of `decode`, if there is one: numbers and permissions.
+fn search_fault(decode: &ArgMatches<'_>) -> Option<ErrorKind>
+    ensures { result ≡ search_fault_of (rows_of (found_of decode.now)) }
+{
+    value_fault(
+        is_address(decode, "skip")
+            && is_address(decode, "at")
+            && is_address(decode, "holds")
+            && are_permissions(decode, "perms"),
+    )
+}
+
+/// Returns the kind of error of a value that is not of its form.
+fn value_fault(is_read: bool) -> Option<ErrorKind>
+    ensures { result ≡ value_fault is_read }
+{
+    if is_read {
+        None
+    } else {
+        Some(ErrorKind::ValueValidation)
+    }
+}
+
+/// Returns the kind of error of the values of `round`, if there is one: one of N and `--list` is required, each
+/// excludes the other, and the base is an address.
 fn list_fault(round: &ArgMatches<'_>) -> Option<ErrorKind>
     ensures { result ≡ list_fault_of (rows_of (found_of round.now)) }
 {
     match (has_value(round, "list"), has_value(round, "length")) {
         (true, true) => Some(ErrorKind::ArgumentConflict),
         (false, false) => Some(ErrorKind::MissingRequiredArgument),
-        _ => None,
+        _ => value_fault(is_address(round, "base")),
     }
 }
 
 /// Returns the kind of error of the values of `explain`, if there is one: WORD excludes `--length` and `--base`, and
-/// without WORD `--length` is required, which excludes `--svg`.
+/// without WORD `--length` is required, which excludes `--svg`, and the base is an address.
 fn word_fault(explain: &ArgMatches<'_>) -> Option<ErrorKind>
     ensures { result ≡ choice_fault_of (rows_of (found_of explain.now)) }
 {
@@ -134,21 +168,7 @@ fn word_fault(explain: &ArgMatches<'_>) -> Option<ErrorKind>
     } else if is_on(explain, "svg") {
         Some(ErrorKind::ArgumentConflict)
     } else {
-        None
-    }
-}
-
-/// Returns the error that says which values `round` or `explain` accepts together.
-fn choice_error(
-    alloc: Global,
-    matches: &ArgMatches<'_>,
-    kind: ErrorKind,
-) -> Result<Error, AllocError>
-    ensures { IfOk result (λ error. kind_of error ≡ kind) }
-{
-    match matches.subcommand_matches("round") {
-        Some(_) => bare_round_command(alloc).error(kind, ROUND_CHOICE),
-        None => explain_command(alloc)?.error(kind, EXPLAIN_CHOICE),
+        value_fault(is_address(explain, "base"))
     }
 }
 
@@ -207,11 +227,13 @@ fn read_round<'a>(matches: &ArgMatches<'a>) -> Invocation<'a>
     ensures command { command_name_of result ≡ codes "round" }
     ensures values { HasValues (rows_of (found_of matches.now)) result }
 {
-    let base = value_of(matches, "base");
     match value_of(matches, "list") {
-        Some(file) => Invocation::RoundList { base, file },
+        Some(file) => Invocation::RoundList {
+            base: base_of(matches),
+            file,
+        },
         None => Invocation::Ask(Question::Round {
-            base,
+            base: base_of(matches),
             length: wanted_text(matches, "length"),
         }),
     }
@@ -282,13 +304,14 @@ fn read_replay<'a>(matches: &ArgMatches<'a>) -> Invocation<'a>
 fn read_decode<'a>(matches: &ArgMatches<'a>) -> Invocation<'a>
     requires format { HasChoice format_named (codes "format") (rows_of (found_of matches.now)) }
     requires order { HasChoice input_named (codes "bytes") (rows_of (found_of matches.now)) }
+    requires search { search_fault_of (rows_of (found_of matches.now)) ≡ None }
     ensures command { command_name_of result ≡ codes "decode" }
     ensures values { HasValues (rows_of (found_of matches.now)) result }
 {
     Invocation::Decode {
         input: input_of(matches),
         format: format_of(matches),
-        texts: decode_texts(matches),
+        values: decode_values(matches),
         file: value_of(matches, "file"),
     }
 }
@@ -311,7 +334,7 @@ fn read_explain<'a>(matches: &ArgMatches<'a>) -> Invocation<'a>
         Some(word) if is_on(matches, "svg") => Invocation::Ask(Question::DrawWindow { word }),
         Some(word) => Invocation::Ask(Question::Explain { word }),
         None => Invocation::Ask(Question::ExplainLength {
-            base: base_of(matches),
+            base: base_or_zero(matches),
             length: wanted_text(matches, "length"),
         }),
     }

@@ -188,6 +188,10 @@ pub(crate) enum Kind {
     Free,
     /// An option with a value.
     Valued,
+    /// An option whose value is an address.
+    Address,
+    /// An option whose value names permissions.
+    Permissions,
     /// An option without a value.
     Flag,
     /// The option `--slots N`.
@@ -253,7 +257,7 @@ const COMMANDS: &[CommandRow] = &[
         page: Page::Round,
         rows: &[
             Row {
-                kind: Kind::Valued,
+                kind: Kind::Address,
                 name: "base",
                 placeholder: "B",
                 topic: Topic::RoundBase,
@@ -481,25 +485,25 @@ const COMMANDS: &[CommandRow] = &[
                 topic: Topic::Bytes,
             },
             Row {
-                kind: Kind::Valued,
+                kind: Kind::Address,
                 name: "skip",
                 placeholder: "N",
                 topic: Topic::Skip,
             },
             Row {
-                kind: Kind::Valued,
+                kind: Kind::Address,
                 name: "at",
                 placeholder: "START",
                 topic: Topic::At,
             },
             Row {
-                kind: Kind::Valued,
+                kind: Kind::Address,
                 name: "holds",
                 placeholder: "ADDRESS",
                 topic: Topic::Holds,
             },
             Row {
-                kind: Kind::Valued,
+                kind: Kind::Permissions,
                 name: "perms",
                 placeholder: "NAMES",
                 topic: Topic::Permissions,
@@ -539,7 +543,7 @@ const EXPLAIN_ROWS: &[Row] = &[
         topic: Topic::RequestLength,
     },
     Row {
-        kind: Kind::Valued,
+        kind: Kind::Address,
         name: "base",
         placeholder: "B",
         topic: Topic::RequestBase,
@@ -564,5 +568,15 @@ pub(crate) fn commands<'a>() -> &'a [CommandRow<'a>]
 pub(crate) fn explain_rows<'a>() -> &'a [Row<'a>]
     ensures { (choices : Choices) → with_arguments choices (new_app (codes "explain")) result.now ≡ explain_command }
 {
+    EXPLAIN_ROWS
+}
+
+/// Returns the arguments of the command of this name.
+pub(crate) fn rows_named<'a>(name: &'a str) -> &'a [Row<'a>] {
+    for command in COMMANDS {
+        if command.name == name {
+            return command.rows;
+        }
+    }
     EXPLAIN_ROWS
 }

@@ -1,13 +1,18 @@
 //! The values that clap found for arguments and options.
-ghost use Rattle.std.specs.Prelude.{◌≡◌, Some, codes, option_map, unwrap_or};
+ghost use Rattle.std.specs.Prelude.{◌≡◌, None, Some, codes, true, option_map, unwrap_or};
 ghost use Rattle.clap.specs.Words.{first_of, found_of, rows_of};
-ghost use Rattle.cli.specs.Invocation.{HasChoice, HasDecodeTexts, HasFlag, HasLimit, HasOutput, HasPool};
-ghost use Rattle.cli.specs.Invocation.{HasPoolTexts, HasReplayTexts, HasText, IsChosen, IsGiven, IsLimit};
-ghost use Rattle.cli.specs.Invocation.{align_named, format_named, input_named, is_on, summary_named};
+ghost use Rattle.cc_values.specs.Values.{address_in, permissions_in};
+ghost use Rattle.cli.specs.Invocation.{HasBase, HasChoice, HasDecodeValues, HasFlag, HasLimit, HasOutput, HasPool};
+ghost use Rattle.cli.specs.Invocation.{HasPoolTexts, HasReplayTexts, HasText, IsBase, IsChosen, IsGiven, IsLimit};
+ghost use Rattle.cli.specs.Invocation.{IsRead, align_named, format_named, input_named, is_on, is_read};
+ghost use Rattle.cli.specs.Invocation.{search_fault_of, summary_named};
 
-use crate::invocation::{DecodeTexts, PoolTexts, ReplayOutput, ReplayTexts, SummaryFormat};
+use crate::invocation::{DecodeValues, PoolTexts, ReplayOutput, ReplayTexts, SummaryFormat};
+use crate::question::Base;
 use cc_bounds::Align;
 use cc_io::{ByteOrder, Format, InputForm};
+use cc_values::{read_address, read_permissions};
+use cc_word::Perms;
 use clap::ArgMatches;
 
 /// The value of `--slots` if it is not given.
@@ -20,11 +25,74 @@ pub(crate) fn value_of<'a>(matches: &ArgMatches<'a>, name: &str) -> Option<&'a s
     matches.get_str(name)
 }
 
-/// Returns the value of `--base`, or `0`.
-pub(crate) fn base_of<'a>(matches: &ArgMatches<'a>) -> &'a str
-    ensures { result.now ≡ unwrap_or (first_of (codes "base") (rows_of (found_of matches.now))) (codes "0") }
+/// Returns whether the value of an option is an address, or the option is not given.
+pub(crate) fn is_address(matches: &ArgMatches<'_>, name: &str) -> bool
+    ensures { result ≡ is_read address_in (first_of name.now (rows_of (found_of matches.now))) }
 {
-    value_of(matches, "base").unwrap_or("0")
+    match value_of(matches, name) {
+        Some(text) => read_address(text.as_bytes()).is_ok(),
+        None => true,
+    }
+}
+
+/// Returns whether the value of an option names permissions, or the option is not given.
+pub(crate) fn are_permissions(matches: &ArgMatches<'_>, name: &str) -> bool
+    ensures { result ≡ is_read permissions_in (first_of name.now (rows_of (found_of matches.now))) }
+{
+    match value_of(matches, name) {
+        Some(text) => read_permissions(text.as_bytes()).is_ok(),
+        None => true,
+    }
+}
+
+/// Returns the address that is the value of an option, if the option is given.
+fn address_of(matches: &ArgMatches<'_>, name: &str) -> Option<u64>
+    requires { is_read address_in (first_of name.now (rows_of (found_of matches.now))) ≡ true }
+    ensures { IsRead address_in (first_of name.now (rows_of (found_of matches.now))) result }
+{
+    match value_of(matches, name) {
+        Some(text) => read_address(text.as_bytes()).ok(),
+        None => None,
+    }
+}
+
+/// Returns the permissions that are the value of an option, if the option is given.
+fn permissions_of(matches: &ArgMatches<'_>, name: &str) -> Option<Perms>
+    requires { is_read permissions_in (first_of name.now (rows_of (found_of matches.now))) ≡ true }
+    ensures { IsRead permissions_in (first_of name.now (rows_of (found_of matches.now))) result }
+{
+    match value_of(matches, name) {
+        Some(text) => read_permissions(text.as_bytes()).ok(),
+        None => None,
+    }
+}
+
+/// Returns the value of `--base`, if it is given.
+pub(crate) fn base_of<'a>(matches: &ArgMatches<'a>) -> Option<Base<'a>>
+    requires { is_read address_in (first_of (codes "base") (rows_of (found_of matches.now))) ≡ true }
+    ensures { HasBase (rows_of (found_of matches.now)) result }
+{
+    match value_of(matches, "base") {
+        Some(text) => match read_address(text.as_bytes()) {
+            Ok(address) => Some(Base { text, address }),
+            Err(_) => unreachable!(),
+        },
+        None => None,
+    }
+}
+
+/// Returns the value of `--base`, or 0.
+pub(crate) fn base_or_zero<'a>(matches: &ArgMatches<'a>) -> Base<'a>
+    requires { is_read address_in (first_of (codes "base") (rows_of (found_of matches.now))) ≡ true }
+    ensures { IsBase (unwrap_or (first_of (codes "base") (rows_of (found_of matches.now))) (codes "0")) result }
+{
+    match base_of(matches) {
+        Some(base) => base,
+        None => Base {
+            text: "0",
+            address: 0,
+        },
+    }
 }
 
 /// Returns the value of an argument that has one.
@@ -50,14 +118,15 @@ pub(crate) fn pool_texts<'a>(matches: &ArgMatches<'a>) -> PoolTexts<'a>
 }
 
 /// Returns the values of the options of `decode` that are numbers or names.
-pub(crate) fn decode_texts<'a>(matches: &ArgMatches<'a>) -> DecodeTexts<'a>
-    ensures { HasDecodeTexts (rows_of (found_of matches.now)) result }
+pub(crate) fn decode_values(matches: &ArgMatches<'_>) -> DecodeValues
+    requires { search_fault_of (rows_of (found_of matches.now)) ≡ None }
+    ensures { HasDecodeValues (rows_of (found_of matches.now)) result }
 {
-    DecodeTexts {
-        skip: value_of(matches, "skip"),
-        at: value_of(matches, "at"),
-        holds: value_of(matches, "holds"),
-        perms: value_of(matches, "perms"),
+    DecodeValues {
+        skip: address_of(matches, "skip"),
+        at: address_of(matches, "at"),
+        holds: address_of(matches, "holds"),
+        perms: permissions_of(matches, "perms"),
     }
 }
 

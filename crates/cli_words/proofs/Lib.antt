@@ -1,3 +1,2 @@
-mod ListingLemmas
 mod TaskLemmas
 mod RoundListLemmas

@@ -1,76 +1,62 @@
--- The output of `decode`, from that of its listing, and of `round`, from that for its base.
-use Rattle.std.proofs.Common.{◌≡◌, ℕ, Bool, false, ◌&&◌, ◌||◌, [], Option, Result, Ok, Err, MatchResult, subst, sym}
+-- The output of `decode`, and of `round` for a list, with its hint.
+use Rattle.std.proofs.Common.{◌≡◌, ℕ, Bool, false, ◌&&◌, ◌||◌, [], Option, Result, Ok, Err, subst}
 use Rattle.std.specs.Prelude.{OnErr, OnOk, is_err, true}
 use Rattle.std.proofs.lemmas.Bool.{false≢true}
 use Rattle.std.specs.List.{list_any}
 use Rattle.std.specs.Io.KnownBytes.{Appends}
-use Rattle.std.specs.Borrow.{Bor}
-use Rattle.clap.specs.Words.{Text}
-use Rattle.cc_word.specs.declared.refusal.Refusal.{Refusal}
-use Rattle.cc_io.specs.Devices.{OutputState}
 use Rattle.cc_io.specs.declared.summary.IoError.{IoError}
 use Rattle.cc_io.specs.declared.summary.Summary.{Summary}
-use Rattle.cc_io.specs.declared.format.Format.{Format}
-use Rattle.cc_io.specs.declared.input_form.InputForm.{InputForm}
 use Rattle.cc_decode.specs.declared.options.Options.{Options}
-use Rattle.cli.specs.declared.invocation.DecodeTexts.{DecodeTexts}
+use Rattle.cli.specs.declared.question.Base.{Base}
 use Rattle.cli.specs.Devices.{Console, FromInput, OnDevices}
-use Rattle.cli.specs.Input.{file_input}
-use Rattle.cli_words.specs.Listing.{listing_in, place_in}
-use Rattle.cc_io.specs.CommandOutput.{WritesRefusal}
 use Rattle.cli_words.specs.BareDigits.{is_bare}
 use Rattle.cli_words.specs.NumberHint.{after_base, hint_if}
-use Rattle.cli_words.specs.Tasks.{ListsWords, RoundsLengths, SeesLengths, WithBase, WithListing}
+use Rattle.cli_words.specs.Questions.{address_of}
+use Rattle.cli_words.specs.Tasks.{ListsWords, RoundsLengths, SeesLengths}
 use Rattle.cli.specs.declared.fault.Fault.{Fault}
 use Rattle.cli.specs.declared.fault.Fault.TheVariants as fault
 use Rattle.cli.specs.declared.input.InputName.{InputName}
-use Rattle.cli.proofs.DeviceLemmas.{on_devices-map}
 
--- The rows of the words of the input that FILE names, in the listing that the texts give.
-pub decodes : (input : InputForm) (format : Format) (texts : DecodeTexts) (file : Option (Bor Text)) (console : Console)
-    (listing : ℕ × Options) (name : InputName) (result : Result Summary Fault) → listing_in input format texts ≡ Ok listing → name ≡ file_input file
-    → OnDevices (FromInput name console (ListsWords listing.0 listing.1)) result
-    → OnDevices (WithListing input format texts console (λ skipped options. FromInput (file_input file) console (ListsWords skipped options))) result
-decodes input format texts file console listing name result is_listing is_input lists =
-    on_devices-map (FromInput name console (ListsWords listing.0 listing.1))
-    (WithListing input format texts console (λ skipped options. FromInput (file_input file) console (ListsWords skipped options)))
-    (λ io holds.
-    subst (λ (found : Result (ℕ × Options) Refusal). MatchResult found
-    (λ pair. FromInput (file_input file) console (ListsWords pair.0 pair.1) io)
-    (λ refusal. WritesRefusal console.output console.output_now refusal io)) (sym is_listing)
-    (subst (λ (given : InputName). FromInput given console (ListsWords listing.0 listing.1) io) is_input holds))
-    result lists
-
--- The output of `round`, from that for the base that the text gives.
-pub with_base : (text : Option (Bor Text)) (base : Option ℕ) (output output_now : OutputState) (Does : (base : Option ℕ) → Result Summary IoError → Type 0)
-    (result : Result Summary Fault) → place_in text ≡ Ok base → OnDevices (Does base) result → OnDevices (WithBase text output output_now Does) result
-with_base text base output output_now Does result is does =
-    on_devices-map (Does base) (WithBase text output output_now Does)
-    (λ io holds.
-    subst (λ (found : Result (Option ℕ) Refusal). MatchResult found (λ place. Does place io) (λ refusal. WritesRefusal output output_now refusal io)) (sym is) holds)
-    result does
+-- The rows of the words of an equal input, in an equal listing.
+pub lists_alike : (skipped other : ℕ) (options others : Options) (name input : InputName) (console : Console) (result : Result Summary Fault)
+    → skipped ≡ other → options ≡ others → name ≡ input
+    → OnDevices (FromInput name console (ListsWords skipped options)) result → OnDevices (FromInput input console (ListsWords other others)) result
+lists_alike skipped other options others name input console result is_skipped is_options is_name f =
+    subst (λ (n : InputName). OnDevices (FromInput n console (ListsWords other others)) result) is_name
+    (subst (λ (o : Options). OnDevices (FromInput name console (ListsWords other o)) result) is_options
+    (subst (λ (s : ℕ). OnDevices (FromInput name console (ListsWords s options)) result) is_skipped f))
 
 -- The hint on the list, beside its output.
-pub hinted_too : (text : Option (Bor Text)) (hints bare : Bool) (place : Option ℕ) (input : InputName) (console : Console) (result : Result Summary Fault)
-    → OnOk result (console.errors_now.has_failed ≡ false → Appends console.errors.taken console.errors_now.taken (hint_if (hints && (list_any is_bare (after_base text []) || bare))))
-    → OnDevices (FromInput input console (SeesLengths place bare)) result → OnDevices (FromInput input console (RoundsLengths text hints place)) result
-hinted_too text hints bare place input console (Ok summary) hinted f = record {
+hinted_too : (base : Option Base) (hints bare : Bool) (input : InputName) (console : Console) (result : Result Summary Fault)
+    → OnOk result (console.errors_now.has_failed ≡ false → Appends console.errors.taken console.errors_now.taken (hint_if (hints && (list_any is_bare (after_base base []) || bare))))
+    → OnDevices (FromInput input console (SeesLengths (address_of base) bare)) result → OnDevices (FromInput input console (RoundsLengths base hints)) result
+hinted_too base hints bare input console (Ok summary) hinted f = record {
   source = f.source;
   known = f.known;
   does = record { bare = bare; rounds = f.does; hinted = hinted };
 }
-hinted_too text hints bare place input console (Err fault.Read) hinted f = record {
+hinted_too base hints bare input console (Err fault.Read) hinted f = record {
   source = f.source;
   known = f.known;
   does = record { bare = bare; rounds = f.does; hinted = tt };
 }
-hinted_too text hints bare place input console (Err fault.Write) hinted f = record {
+hinted_too base hints bare input console (Err fault.Write) hinted f = record {
   source = f.source;
   known = f.known;
   does = record { bare = bare; rounds = f.does; hinted = tt };
 }
-hinted_too text hints bare place input console (Err fault.Memory) hinted f = tt
-hinted_too text hints bare place input console (Err fault.Open) hinted f = tt
+hinted_too base hints bare input console (Err fault.Memory) hinted f = tt
+hinted_too base hints bare input console (Err fault.Open) hinted f = tt
+
+-- The same for an equal address and an equal input.
+pub hinted_at : (base : Option Base) (hints bare : Bool) (place : Option ℕ) (name input : InputName) (console : Console) (result : Result Summary Fault)
+    → place ≡ address_of base → name ≡ input
+    → OnOk result (console.errors_now.has_failed ≡ false → Appends console.errors.taken console.errors_now.taken (hint_if (hints && (list_any is_bare (after_base base []) || bare))))
+    → OnDevices (FromInput name console (SeesLengths place bare)) result → OnDevices (FromInput input console (RoundsLengths base hints)) result
+hinted_at base hints bare place name input console result is_place is_name hinted f =
+    hinted_too base hints bare input console result hinted
+    (subst (λ (n : InputName). OnDevices (FromInput n console (SeesLengths (address_of base) bare)) result) is_name
+    (subst (λ (p : Option ℕ). OnDevices (FromInput name console (SeesLengths p bare)) result) is_place f))
 
 -- At an error nothing is said of the hint.
 pub no_hint : (Hinted : Type 0) (result : Result Summary Fault) → is_err result ≡ true → OnOk result Hinted

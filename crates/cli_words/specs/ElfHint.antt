@@ -19,6 +19,6 @@ elf_hint start =
     else []
 
 -- The file whose first bytes are decoded as a raw word: a file with raw words, of which no byte is skipped.
-abbrev pub raw_file : InputForm → (skip : Option (Bor Text)) → InputName → Option (Bor Text)
+abbrev pub raw_file : InputForm → (skip : Option ℕ) → InputName → Option (Bor Text)
 raw_file (Bytes order) None (File path) = Some path
 raw_file _ _ _ = None

@@ -1,14 +1,13 @@
 -- The hint on a number that may be hexadecimal digits without `0x`.
 use Rattle.std.specs.Prelude.{ℕ, Bool, ◌&&◌, List, [], ◌∷◌, Option, Some, None, codes, if◌then◌else◌}
-use Rattle.std.specs.Borrow.{Bor}
 use Rattle.std.specs.List.{list_any}
-use Rattle.clap.specs.Words.{Text}
+use Rattle.cli.specs.declared.question.Base.{Base}
 use Rattle.cli_words.specs.BareDigits.{is_bare}
 
--- The numbers of a command: the base, if one is given, and then these.
-abbrev pub after_base : (base : Option (Bor Text)) (numbers : List (List ℕ)) → List (List ℕ)
+-- The numbers of a command as they were typed: the base, if one is given, and then these.
+abbrev pub after_base : (base : Option Base) (numbers : List (List ℕ)) → List (List ℕ)
 after_base None numbers = numbers
-after_base (Some base) numbers = base.now ∷ numbers
+after_base (Some base) numbers = base.text.now ∷ numbers
 
 -- Whether there is a hint: hints are given, and one of the texts is such a number.
 abbrev pub is_hinted : (hints : Bool) (texts : List (List ℕ)) → Bool

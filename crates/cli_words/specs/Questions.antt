@@ -1,5 +1,5 @@
 -- The output of `show`, `round` and `explain`, the questions for which it is an error, and the hint on a question.
-use Rattle.std.specs.Prelude.{ℕ, Bool, true, false, not, ◌&&◌, IsErr, List, [], ◌∷◌, None, Some}
+use Rattle.std.specs.Prelude.{ℕ, Bool, true, false, not, ◌&&◌, IsErr, List, [], ◌∷◌, Option, Some, option_map}
 use Rattle.cc_word.specs.WordText.{IsWordText}
 use Rattle.cc_values.specs.Values.{length_in}
 use Rattle.cc_explain.specs.Explanation.{IsExplanation}
@@ -7,46 +7,48 @@ use Rattle.cc_explain.specs.LineAnswer.{IsLineAnswer}
 use Rattle.cc_io.specs.CommandOutput.{IsTypedWord}
 use Rattle.cc_explain.specs.Listing.{IsListing}
 use Rattle.cc_explain.specs.WindowDrawing.{IsWindowDrawing}
-use Rattle.cc_syntax.specs.Request.{request_in}
-use Rattle.cli_words.specs.LengthExplanation.{IsLengthExplanation}
-use Rattle.cli_words.specs.Rounding.{IsRounding, IsRoundingAfter, IsUnroundableAfter}
+use Rattle.cli.specs.declared.question.Base.{Base}
+use Rattle.cli_words.specs.LengthExplanation.{IsLengthExplanation, request_at}
+use Rattle.cli_words.specs.Rounding.{IsRounding, IsUnroundable}
 use Rattle.cli.specs.declared.question.Question.{Question}
 use Rattle.cli.specs.declared.question.Question.TheVariants.{DrawWindow, Explain, ExplainLength, Round, Show}
 use Rattle.cli_words.specs.NumberHint.{after_base, is_hinted, number_hint}
 use Rattle.cli_words.specs.WordHint.{is_word_hinted, word_hint}
 
+-- The address of a base, if one is given.
+abbrev pub address_of : Option Base → Option ℕ
+address_of base = option_map (λ given. given.address) base
+
 -- IsAnswerTo holds if the bytes are the output for the question.
 abbrev pub IsAnswerTo : Question → (answer : List ℕ) → Type 0
 IsAnswerTo (Show word false) answer = IsListing word.now answer
 IsAnswerTo (Show word true) answer = IsLineAnswer word.now answer
-IsAnswerTo (Round None size) answer = IsRounding None size.now answer
-IsAnswerTo (Round (Some base) size) answer = IsRoundingAfter base.now size.now answer
+IsAnswerTo (Round base size) answer = IsRounding (address_of base) size.now answer
 IsAnswerTo (Explain word) answer = IsExplanation word.now answer
 IsAnswerTo (DrawWindow word) answer = IsWindowDrawing word.now answer
-IsAnswerTo (ExplainLength base size) answer = IsLengthExplanation base.now size.now answer
+IsAnswerTo (ExplainLength base size) answer = IsLengthExplanation base.address size.now answer
 
 -- IsUnanswerable holds if the output is an error: the texts are not a word, not a length, or not bounds that can be
 -- requested. `show` without `--line` accepts no `0x` before a word.
 abbrev pub IsUnanswerable : Question → Type 0
 IsUnanswerable (Show word false) = ¬ IsWordText word.now
 IsUnanswerable (Show word true) = ¬ IsTypedWord word.now
-IsUnanswerable (Round None size) = IsErr (length_in size.now)
-IsUnanswerable (Round (Some base) size) = IsUnroundableAfter base.now size.now
+IsUnanswerable (Round base size) = IsUnroundable (address_of base) (length_in size.now)
 IsUnanswerable (Explain word) = ¬ IsTypedWord word.now
 IsUnanswerable (DrawWindow word) = ¬ IsTypedWord word.now
-IsUnanswerable (ExplainLength base size) = IsErr (request_in base.now size.now)
+IsUnanswerable (ExplainLength base size) = IsErr (request_at base.address size.now)
 
 -- Whether there is a hint on a question: for `show` without `--line` on a word after `0x`, and for `round` and `explain --length` on
 -- the numbers.
 abbrev pub has_hint : (hints : Bool) → Question → Bool
 has_hint hints (Show word as_line) = is_word_hinted (hints && not as_line) word.now
 has_hint hints (Round base size) = is_hinted hints (after_base base (size.now ∷ []))
-has_hint hints (ExplainLength base size) = is_hinted hints (base.now ∷ size.now ∷ [])
+has_hint hints (ExplainLength base size) = is_hinted hints (after_base (Some base) (size.now ∷ []))
 has_hint hints _ = false
 
 -- This hint, or nothing if there is none.
 abbrev pub question_hint : (hints : Bool) → Question → List ℕ
 question_hint hints (Show word as_line) = word_hint (hints && not as_line) word.now
 question_hint hints (Round base size) = number_hint hints (after_base base (size.now ∷ []))
-question_hint hints (ExplainLength base size) = number_hint hints (base.now ∷ size.now ∷ [])
+question_hint hints (ExplainLength base size) = number_hint hints (after_base (Some base) (size.now ∷ []))
 question_hint hints _ = []

@@ -1,11 +1,11 @@
 -- The output of `round` for a string.
-use Rattle.std.specs.Prelude.{◌≡◌, ⊤, ℕ, List, ◌++◌, codes, IsErr, MatchResult, Option, Some, None, Result, Ok, Err}
+use Rattle.std.specs.Prelude.{◌≡◌, ⊤, ℕ, List, ◌++◌, codes, IsErr, Option, Some, None, Result, Ok, Err}
 use Rattle.cc_word.specs.declared.refusal.Refusal.{Refusal}
 use Rattle.cc_bounds.specs.declared.span.Span.{Span}
 use Rattle.cc_bounds.specs.Granule.{IsGranted}
 use Rattle.cc_values.specs.declared.reply.Reply.{Reply}
 use Rattle.cc_values.specs.RoundedLength.{RoundsLength}
-use Rattle.cc_values.specs.Values.{address_in, length_in}
+use Rattle.cc_values.specs.Values.{length_in}
 use Rattle.cc_io.specs.Text.{with_line_feed}
 use Rattle.cc_syntax.specs.Replies.{bounds_text, reply_text}
 use Rattle.cc_io.specs.CommandOutput.{AnswersResult}
@@ -40,12 +40,3 @@ abbrev pub IsUnroundable : (base : Option ℕ) → Result ℕ Refusal → Type 0
 IsUnroundable base (Err refusal) = ⊤
 IsUnroundable None (Ok size) = ⊥
 IsUnroundable (Some base) (Ok size) = IsErr (request_from (Ok (base, size)))
-
--- IsRoundingAfter holds if `answer` is the output for the strings of a base and a length: that for the
--- length from the base, or the line of the refusal of the base.
-abbrev pub IsRoundingAfter : (base text answer : List ℕ) → Type 0
-IsRoundingAfter base text answer = AnswersResult (λ from. IsRounding (Some from) text) (address_in base) answer
-
--- IsUnroundableAfter holds if this output is a refusal.
-abbrev pub IsUnroundableAfter : (base text : List ℕ) → Type 0
-IsUnroundableAfter base text = MatchResult (address_in base) (λ from. IsUnroundable (Some from) (length_in text)) (λ refusal. ⊤)

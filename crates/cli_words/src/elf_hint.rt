@@ -13,10 +13,10 @@ fn is_elf(start: &[u8]) -> bool
     start.starts_with(b"\x7fELF")
 }
 
-/// Returns the file whose first bytes are decoded as a raw word, or `None`. `skip` is the number of bytes to skip, as
-/// it was typed.
-fn raw_file<'a>(form: InputForm, skip: Option<&str>, input: InputName<'a>) -> Option<&'a str>
-    ensures { result ≡ raw_file form skip.entry input.entry }
+/// Returns the file whose first bytes are decoded as a raw word, or `None`. `skip` is the number of bytes to skip, if
+/// it is given.
+fn raw_file<'a>(form: InputForm, skip: Option<u64>, input: InputName<'a>) -> Option<&'a str>
+    ensures { result ≡ raw_file form skip input.entry }
 {
     match (form, skip, input) {
         (InputForm::Bytes(_), None, InputName::File(path)) => Some(path),
@@ -47,7 +47,7 @@ fn hint_elf<E: Sink>(start: &[u8], errors: &mut E)
 pub(crate) fn hint_file<I: Inputs, E: Sink>(
     hints: bool,
     form: InputForm,
-    skip: Option<&str>,
+    skip: Option<u64>,
     inputs: &I,
     input: InputName<'_>,
     errors: &mut E,

@@ -8,13 +8,14 @@ ghost use Rattle.cli_words.specs.NumberHint.{after_base, hint_if, is_hinted, num
 
 use crate::bare_digits::is_bare;
 use cc_io::{Sink, write_all};
+use cli::Base;
 
 /// Returns whether the base, if one is given, or one of the texts is such a number.
-fn has_bare_after(base: Option<&str>, typed: &[&str]) -> bool
+fn has_bare_after(base: Option<Base<'_>>, typed: &[&str]) -> bool
     ensures { result ≡ list_any is_bare (after_base base.entry (texts typed.now)) }
 {
     match base {
-        Some(base) => is_bare(base.as_bytes()) || has_bare(typed),
+        Some(base) => is_bare(base.text.as_bytes()) || has_bare(typed),
         None => has_bare(typed),
     }
 }
@@ -28,7 +29,12 @@ fn has_bare(typed: &[&str]) -> bool
 
 /// Writes the hint if hints are given and the base, if one is given, or one of the texts is such a number. Errors of
 /// the sink are ignored.
-pub(crate) fn hint_numbers<E: Sink>(hints: bool, base: Option<&str>, typed: &[&str], errors: &mut E)
+pub(crate) fn hint_numbers<E: Sink>(
+    hints: bool,
+    base: Option<Base<'_>>,
+    typed: &[&str],
+    errors: &mut E,
+)
     requires { (E.state errors.old).has_failed ≡ false }
     ensures hinted { (E.state errors.new).has_failed ≡ false
         → Appends (E.state errors.old).taken (E.state errors.new).taken
@@ -40,7 +46,7 @@ pub(crate) fn hint_numbers<E: Sink>(hints: bool, base: Option<&str>, typed: &[&s
 
 /// Writes the hint if hints are given, and the base, if one is given, or a line of the list is such a number. Errors of
 /// the sink are ignored.
-pub(crate) fn hint_list<E: Sink>(hints: bool, base: Option<&str>, bare: bool, errors: &mut E)
+pub(crate) fn hint_list<E: Sink>(hints: bool, base: Option<Base<'_>>, bare: bool, errors: &mut E)
     requires { (E.state errors.old).has_failed ≡ false }
     ensures hinted { (E.state errors.new).has_failed ≡ false
         → Appends (E.state errors.old).taken (E.state errors.new).taken

@@ -4,16 +4,16 @@ ghost use Rattle.std.specs.Prelude.{◌≡◌, ◌≢◌, ◌↔◌, [], Err, fa
 ghost use Rattle.cc_io.specs.CommandOutput.{WritesAnswer};
 ghost use Rattle.cli.specs.Devices.{OnDevices};
 ghost use Rattle.cli.specs.declared.question.Question.TheVariants as question;
-ghost use Rattle.cli_words.specs.Questions.{IsAnswerTo, IsUnanswerable, has_hint, question_hint};
+ghost use Rattle.cli_words.specs.Questions.{address_of, IsAnswerTo, IsUnanswerable, has_hint, question_hint};
 ghost use Rattle.cli_words.specs.Tasks.{AnswersQuestion};
 
 use crate::explaining_bounds::explain_length;
 use crate::number_hint::hint_numbers;
-use crate::rounding::{show_round, show_round_from};
+use crate::rounding::show_round;
 use crate::word_hint::hint_word;
 use cc_explain::{draw_window, explain_word, show_line, show_word};
 use cc_io::{IoError, Sink, Summary};
-use cli::{Fault, Question};
+use cli::{Base, Fault, Question};
 
 /// Writes the listing, line, rounding, explanation or drawing that a question requests. Then writes the hint on it to
 /// `errors`, if hints are given: on the word of `show`, and on the numbers of `round` and `explain --length`.
@@ -119,7 +119,7 @@ fn show_typed<W: Sink>(word: &str, as_line: bool, sink: &mut W) -> Result<Summar
 /// Writes how setting bounds rounds a length, with the bounds granted from a base on if one is given. Then writes the
 /// hint on the numbers.
 fn round<W: Sink, E: Sink>(
-    base: Option<&str>,
+    base: Option<Base<'_>>,
     length: &str,
     hints: bool,
     sink: &mut W,
@@ -137,7 +137,7 @@ fn round<W: Sink, E: Sink>(
     ensures silent { ¬ IsTrue (has_hint hints (question.Round base.entry length.entry)) → errors.new ≡ errors.old }
     ensures unreported { OnErr result (errors.new ≡ errors.old) }
 {
-    match round_typed(base, length, sink) {
+    match show_round(address_of(base), length.as_bytes(), sink) {
         Ok(summary) => {
             hint_numbers(hints, base, &[length], errors);
             Ok(summary)
@@ -146,23 +146,19 @@ fn round<W: Sink, E: Sink>(
     }
 }
 
-/// Writes how setting bounds rounds a length, with the bounds granted from a base on if one is given.
-fn round_typed<W: Sink>(base: Option<&str>, length: &str, sink: &mut W) -> Result<Summary, IoError>
-    requires { (W.state sink.old).has_failed ≡ false }
-    ensures answered { WritesAnswer (IsAnswerTo (question.Round base.entry length.entry)) (W.state sink.old)
-        (W.state sink.new) result }
-    ensures any_error { IfOk result (λ summary. IsTrue summary.any_error
-        ↔ IsUnanswerable (question.Round base.entry length.entry)) }
+/// Returns the address of a base, if one is given.
+pub(crate) fn address_of(base: Option<Base<'_>>) -> Option<u64>
+    ensures { result ≡ address_of base.entry }
 {
     match base {
-        None => show_round(length.as_bytes(), sink),
-        Some(base) => show_round_from(base.as_bytes(), length.as_bytes(), sink),
+        Some(base) => Some(base.address),
+        None => None,
     }
 }
 
 /// Writes how bounds are granted to a request. Then writes the hint on its numbers.
 fn explain_request<W: Sink, E: Sink>(
-    base: &str,
+    base: Base<'_>,
     length: &str,
     hints: bool,
     sink: &mut W,
@@ -181,7 +177,7 @@ fn explain_request<W: Sink, E: Sink>(
         → errors.new ≡ errors.old }
     ensures unreported { OnErr result (errors.new ≡ errors.old) }
 {
-    match explain_length(base, length, sink) {
+    match explain_length(base.address, length, sink) {
         Ok(summary) => {
             hint_numbers(hints, Some(base), &[length], errors);
             Ok(summary)

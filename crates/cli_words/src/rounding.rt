@@ -8,59 +8,32 @@ ghost use Rattle.cc_bounds.specs.declared.span.Span.{Span as SpanSpec};
 ghost use Rattle.cc_syntax.specs.Replies.{bounds_text};
 ghost use Rattle.cc_values.specs.Values.{length_in};
 ghost use Rattle.cc_io.specs.CommandOutput.{WritesAnswer};
-ghost use Rattle.cli_words.specs.Rounding.{IsRounding, IsRoundingAfter, IsRoundingFrom, IsUnroundable};
-ghost use Rattle.cli_words.specs.Rounding.{IsUnroundableAfter};
+ghost use Rattle.cli_words.specs.Rounding.{IsRounding, IsRoundingFrom, IsUnroundable};
 
 use cc_bounds::{Len, Span, set_bounds};
-use cc_io::{IoError, Page, Sink, Summary, Text, refusal_bytes, write_and_flush, write_refusal};
-use cc_syntax::{read_address, read_length, reply_line, request_from};
+use cc_io::{IoError, Page, Sink, Summary, Text, refusal_bytes, write_and_flush};
+use cc_syntax::{read_length, reply_line, request_from};
 use cc_values::Reply;
 
 /// The maximum length of the output for a length in bytes, including its line feed.
 const MOST: usize = 264;
 
-/// Writes the line `round LENGTH GRANULE MASK` for a length, and flushes the sink once after it.
+/// Writes the line `round LENGTH GRANULE MASK` for a length, or with a base the line
+/// `round LENGTH GRANULE MASK BASE TOP`, and flushes the sink once after it.
 ///
 /// LENGTH is the number of bytes that bounds of this length take. Their base must be a multiple of
-/// GRANULE. MASK rounds an address down to such a multiple. The number has any number of digits. For any
-/// other string, the output is the first of these refusals that applies:
+/// GRANULE. MASK rounds an address down to such a multiple. BASE and TOP are the bounds that the request
+/// of this length from the base is granted. The number has any number of digits. Otherwise, the output is
+/// the first of these refusals that applies:
 ///
 /// - `error 1 syntax`: the string is not a number
 /// - `error 4 range`: the number is above 2^64
+/// - `error 9 bounds`: the request from the base ends past 2^64
 ///
 /// Requires: the sink has not failed.
 /// Errors: `Write` if and only if the sink fails. A prefix of the output is then written.
 /// Instruction: CRRL, CRAM.
-pub fn show_round<W: Sink>(text: &[u8], sink: &mut W) -> Result<Summary, IoError>
-    requires { (W.state sink.old).has_failed ≡ false }
-    ensures shown { WritesAnswer (IsRounding None text.now) (W.state sink.old) (W.state sink.new) result }
-    ensures any_error { IfOk result (λ summary. IsTrue summary.any_error ↔ IsErr (length_in text.now)) }
-{
-    write_round(None, text, sink)
-}
-
-/// Writes the line `round LENGTH GRANULE MASK BASE TOP` for a length from a base, and flushes the
-/// sink once after it.
-///
-/// BASE and TOP are the bounds that the request of this length from this base is granted. If the base is
-/// not an address, the output is its refusal. Otherwise it is the output of [`show_round`] with BASE and
-/// TOP, or `error 9 bounds` if the request ends past 2^64.
-///
-/// Requires: the sink has not failed.
-/// Errors: `Write` if and only if the sink fails. A prefix of the output is then written.
-pub fn show_round_from<W: Sink>(base: &[u8], text: &[u8], sink: &mut W) -> Result<Summary, IoError>
-    requires { (W.state sink.old).has_failed ≡ false }
-    ensures shown { WritesAnswer (IsRoundingAfter base.now text.now) (W.state sink.old) (W.state sink.new) result }
-    ensures any_error { IfOk result (λ summary. IsTrue summary.any_error ↔ IsUnroundableAfter base.now text.now) }
-{
-    match read_address(base) {
-        Ok(base) => write_round(Some(base), text, sink),
-        Err(refusal) => write_refusal(refusal, sink),
-    }
-}
-
-/// Writes the output for a length, and flushes the sink once after it.
-fn write_round<W: Sink>(base: Option<u64>, text: &[u8], sink: &mut W) -> Result<Summary, IoError>
+pub fn show_round<W: Sink>(base: Option<u64>, text: &[u8], sink: &mut W) -> Result<Summary, IoError>
     requires { (W.state sink.old).has_failed ≡ false }
     ensures shown { WritesAnswer (IsRounding base text.now) (W.state sink.old) (W.state sink.new) result }
     ensures any_error { IfOk result (λ summary. IsTrue summary.any_error ↔ IsUnroundable base (length_in text.now)) }

@@ -1,29 +1,29 @@
 //! `decode`, `annotate` and `round --list`: the call for the words or the lengths of an input.
-ghost use Rattle.std.specs.Prelude.{◌≡◌, ◌≢◌, IsTrue, false, Err, IsOk, OnErr};
+ghost use Rattle.std.specs.Prelude.{◌≡◌, ◌≢◌, IsTrue, false, Err, OnErr};
 ghost use Rattle.cli.specs.Devices.{FromInput, IsEnd, OnDevices, OnOutput, console_of};
 ghost use Rattle.cli.specs.Input.{IsFile, file_input};
-ghost use Rattle.cli_words.specs.Listing.{listing_in, place_in};
-ghost use Rattle.cli_words.specs.Tasks.{AnnotatesWords, ListsWords, RoundsLengths, SeesLengths, WithBase, WithListing};
+ghost use Rattle.cli_words.specs.Listing.{options_of, skipped_of};
+ghost use Rattle.cli_words.specs.Tasks.{AnnotatesWords, ListsWords, RoundsLengths, SeesLengths};
 
 use crate::elf_hint::hint_file;
 use crate::length_list::round_list;
-use crate::listing::{listing_of, place_of};
+use crate::listing::options_of;
 use crate::number_hint::hint_list;
+use crate::questions::address_of;
 use cc_decode::{Format, InputForm, Options, annotate, decode_words};
-use cc_io::{Sink, Summary, write_refusal};
-use cli::{Content, DecodeTexts, Fault, InputName, Inputs, file_input};
+use cc_io::{Sink, Summary};
+use cli::{Base, Content, DecodeValues, Fault, InputName, Inputs, file_input};
 
-/// Writes a row for each listed word of the input that FILE names. The numbers and names of `texts` are read first. If
-/// one is refused, the output is that refusal, and nothing is read. Then writes the hint on an ELF file to `errors`, if
+/// Writes a row for each listed word of the input that FILE names. Then writes the hint on an ELF file to `errors`, if
 /// hints are given and a file was decoded as raw words from its first byte on.
 ///
 /// Requires: no device has failed.
 /// Errors: `Open` if the input cannot be opened, and nothing was written then; `Read` if a read fails; `Write` if and
-/// only if the sink failed. No hint is written then, and none if a text is refused.
+/// only if the sink failed. No hint is written then.
 pub fn decode_file<I: Inputs, W: Sink, E: Sink>(
     input: InputForm,
     format: Format,
-    texts: DecodeTexts<'_>,
+    values: DecodeValues,
     hints: bool,
     inputs: &mut I,
     source: &mut I::Opened,
@@ -36,30 +36,25 @@ pub fn decode_file<I: Inputs, W: Sink, E: Sink>(
     requires sink { (W.state sink.old).has_failed ≡ false }
     requires errors { (E.state errors.old).has_failed ≡ false }
     ensures decodes { OnOutput (I.bytes_of inputs.old) (I.Opened.state source.new) (W.state sink.old) (W.state sink.new)
-        (λ console. WithListing input format texts.entry console
-        (λ skipped options. FromInput (file_input file.entry) console (ListsWords skipped options))) result }
-    ensures silent { ¬ (IsTrue hints × IsOk (listing_in input format texts.entry)) → errors.new ≡ errors.old }
+        (λ console. FromInput (file_input file.entry) console (ListsWords (skipped_of values)
+        (options_of input format values))) result }
+    ensures silent { ¬ IsTrue hints → errors.new ≡ errors.old }
     ensures unreported { OnErr result (errors.new ≡ errors.old) }
     ensures open { result ≡ Err Fault.Open → IsFile (file_input file.entry) }
     ensures memory { result ≢ Err Fault.Memory }
     ensures asked { I.last_asked inputs.new (file_input file.entry) Content.Words ≡ false
         → (inputs.new ≡ inputs.old) × (source.new ≡ source.old) }
-    ensures unused { ¬ IsOk (listing_in input format texts.entry) → (inputs.new ≡ inputs.old)
-        × (source.new ≡ source.old) }
     ensures end { IsEnd (I.has_refused inputs.new) (I.Opened.state source.new) (W.state sink.old) (W.state sink.new)
         result }
 {
-    match listing_of(input, format, texts) {
-        Ok((skipped, options)) => {
-            let result = list_words(skipped, options, inputs, source, file_input(file), sink);
-            if result.is_err() {
-                return result;
-            }
-            hint_file(hints, input, texts.skip, inputs, file_input(file), errors);
-            result
-        }
-        Err(refusal) => Ok(write_refusal(refusal, sink)?),
+    let skipped = values.skip.unwrap_or(0);
+    let options = options_of(input, format, &values);
+    let result = list_words(skipped, options, inputs, source, file_input(file), sink);
+    if result.is_err() {
+        return result;
     }
+    hint_file(hints, input, values.skip, inputs, file_input(file), errors);
+    result
 }
 
 /// Writes a row for each listed word of an input after its first bytes.
@@ -118,15 +113,14 @@ pub fn annotate_file<I: Inputs, W: Sink>(
 }
 
 /// Writes the output of `round` for each length of the list that FILE names, with the bounds granted from a base, if
-/// one is given. The base is read first. If it is refused, the output is that refusal, and nothing is read. Then writes
-/// the hint on numbers to `errors`, if hints are given and the base or a line of the list may be meant as hexadecimal
-/// digits.
+/// one is given. Then writes the hint on numbers to `errors`, if hints are given and the base or a line of the list may
+/// be meant as hexadecimal digits.
 ///
 /// Requires: no device has failed.
 /// Errors: `Open` if the input cannot be opened, and nothing was written then; `Read` if a read fails; `Write` if and
-/// only if the sink failed. No hint is written then, and none if the base is refused.
+/// only if the sink failed. No hint is written then.
 pub fn round_file<I: Inputs, W: Sink, E: Sink>(
-    base: Option<&str>,
+    base: Option<Base<'_>>,
     hints: bool,
     inputs: &mut I,
     source: &mut I::Opened,
@@ -138,64 +132,21 @@ pub fn round_file<I: Inputs, W: Sink, E: Sink>(
     requires inputs { I.has_refused inputs.old ≡ false }
     requires sink { (W.state sink.old).has_failed ≡ false }
     requires errors { (E.state errors.old).has_failed ≡ false }
-    ensures rounds { OnDevices (WithBase base.entry (W.state sink.old) (W.state sink.new)
-        (λ place. FromInput (file_input file.entry)
+    ensures rounds { OnDevices (FromInput (file_input file.entry)
         (console_of (I.bytes_of inputs.old) (I.Opened.state source.new) (W.state sink.old) (W.state sink.new)
-        (E.state errors.old) (E.state errors.new)) (RoundsLengths base.entry hints place))) result }
-    ensures silent { ¬ (IsTrue hints × IsOk (place_in base.entry)) → errors.new ≡ errors.old }
+        (E.state errors.old) (E.state errors.new)) (RoundsLengths base.entry hints)) result }
+    ensures silent { ¬ IsTrue hints → errors.new ≡ errors.old }
     ensures unreported { OnErr result (errors.new ≡ errors.old) }
     ensures open { result ≡ Err Fault.Open → IsFile (file_input file.entry) }
     ensures memory { result ≢ Err Fault.Memory }
     ensures asked { I.last_asked inputs.new (file_input file.entry) Content.Words ≡ false
         → (inputs.new ≡ inputs.old) × (source.new ≡ source.old) }
-    ensures unused { ¬ IsOk (place_in base.entry) → (inputs.new ≡ inputs.old) × (source.new ≡ source.old) }
-    ensures end { IsEnd (I.has_refused inputs.new) (I.Opened.state source.new) (W.state sink.old) (W.state sink.new)
-        result }
-{
-    match place_of(base) {
-        Ok(place) => round_hinted(
-            place,
-            base,
-            hints,
-            inputs,
-            source,
-            file_input(file),
-            sink,
-            errors,
-        ),
-        Err(refusal) => Ok(write_refusal(refusal, sink)?),
-    }
-}
-
-/// Writes the output of `round` for each length of the list of an input, and then the hint on numbers.
-fn round_hinted<I: Inputs, W: Sink, E: Sink>(
-    place: Option<u64>,
-    base: Option<&str>,
-    hints: bool,
-    inputs: &mut I,
-    source: &mut I::Opened,
-    input: InputName<'_>,
-    sink: &mut W,
-    errors: &mut E,
-) -> Result<Summary, Fault>
-    requires source { (I.Opened.state source.old).has_failed ≡ false }
-    requires inputs { I.has_refused inputs.old ≡ false }
-    requires sink { (W.state sink.old).has_failed ≡ false }
-    requires errors { (E.state errors.old).has_failed ≡ false }
-    ensures rounds { OnDevices (FromInput input.entry
-        (console_of (I.bytes_of inputs.old) (I.Opened.state source.new) (W.state sink.old) (W.state sink.new)
-        (E.state errors.old) (E.state errors.new)) (RoundsLengths base.entry hints place)) result }
-    ensures silent { ¬ IsTrue hints → errors.new ≡ errors.old }
-    ensures unreported { OnErr result (errors.new ≡ errors.old) }
-    ensures open { result ≡ Err Fault.Open → IsFile input.entry }
-    ensures memory { result ≢ Err Fault.Memory }
-    ensures asked { I.last_asked inputs.new input.entry Content.Words ≡ false → (inputs.new ≡ inputs.old)
-        × (source.new ≡ source.old) }
     ensures end { IsEnd (I.has_refused inputs.new) (I.Opened.state source.new) (W.state sink.old) (W.state sink.new)
         result }
 {
     let mut bare = false;
-    let result = round_input(place, inputs, source, input, sink, &mut bare);
+    let address = address_of(base);
+    let result = round_input(address, inputs, source, file_input(file), sink, &mut bare);
     if result.is_err() {
         return result;
     }

@@ -1,15 +1,13 @@
-use Rattle.std.proofs.Common.{◌≡◌, [], Err, None, Option, Some, subst}
-use Rattle.std.specs.Prelude.{IfSome, IsTrue}
+use Rattle.std.proofs.Common.{◌≡◌, [], Err, None, Some, subst}
+use Rattle.std.specs.Prelude.{IfSome}
 use Rattle.cc_machine.specs.State.{initial_state}
 use Rattle.cc_syntax.specs.Planning.{plan_opening, pool_of}
 use Rattle.cli.specs.declared.fault.Fault.TheVariants as fault
 use Rattle.cli.specs.declared.input.Content.TheVariants as content
-use Rattle.cli.specs.Devices.{Console, FromInput, OnDevices, console_of}
+use Rattle.cli.specs.Devices.{FromInput, OnDevices, console_of}
 use Rattle.cli.specs.Input.{IsFile, file_input, trace_content}
 use Rattle.cli_replay.specs.ReplayTexts.{replay_in}
 use Rattle.cli_replay.specs.Replaying.{IsStreaming, ReplaysTrace}
-use Rattle.cli_words.specs.Listing.{listing_in, place_in}
-use Rattle.cli_words.specs.Tasks.{ListsWords, RoundsLengths}
 use Rattle.cli_scripts.specs.Report.{report_of}
 use Rattle.cli_scripts.specs.Runs.{DrawsRun, PlansFile, ReportsRun, StarvesPlan}
 use Rattle.cli_scripts.specs.declared.report.Report.{Report}
@@ -168,36 +166,13 @@ returns-in-Decode-clause-executes g c =
     of_equal (λ (effect : Effect). OnDevices (effect.Does (console_of (g.I.Inputs.bytes_of c.args.inputs.now) (g.I.Opened.Source.state c.decode_file.new.source) (g.W.Sink.state c.args.sink.now)
     (g.W.Sink.state c.decode_file.new.sink) (g.E.Sink.state c.args.errors.now) (g.E.Sink.state c.decode_file.new.errors))) c.decode_file.result)
     c.args.terminals _ _ c.in-Decode.is
-    (does (listing_in c.in-Decode.input c.in-Decode.format c.in-Decode.texts) (λ listing. reads (file_input c.in-Decode.file) content.Words (ListsWords listing.0 listing.1) (λ console. ⊥)
-    (IsTrue c.args.terminals.errors))
-    (console_of (g.I.Inputs.bytes_of c.args.inputs.now) (g.I.Opened.Source.state c.decode_file.new.source) (g.W.Sink.state c.args.sink.now)
-    (g.W.Sink.state c.decode_file.new.sink) (g.E.Sink.state c.args.errors.now) (g.E.Sink.state c.decode_file.new.errors)) c.decode_file.result
-    (c.decode_file.ensures.decodes (g.E.Sink.state c.args.errors.now) (g.E.Sink.state c.decode_file.new.errors)))
-
-pub returns-in-Decode-clause-open : goal.returns-in-Decode-clause-open
-returns-in-Decode-clause-open g c =
-    of_equal (λ (effect : Effect). c.decode_file.result ≡ Err fault.Open → IfSome effect.input (λ asked. IsFile asked.input))
-    c.args.terminals _ _ c.in-Decode.is
-    (λ refused. opens (listing_in c.in-Decode.input c.in-Decode.format c.in-Decode.texts) (λ listing.
-    reads (file_input c.in-Decode.file) content.Words (ListsWords listing.0 listing.1) (λ console. ⊥) (IsTrue c.args.terminals.errors)) (λ values. c.decode_file.ensures.open refused))
-
-pub returns-in-Decode-clause-asked : goal.returns-in-Decode-clause-asked
-returns-in-Decode-clause-asked g c =
-    of_equal (λ (effect : Effect). IsUnasked effect.input (g.I.Inputs.last_asked c.decode_file.new.inputs)
-    → ((c.decode_file.new.inputs ≡ c.args.inputs.now) × (c.decode_file.new.source ≡ c.args.source.now)))
-    c.args.terminals _ _ c.in-Decode.is
-    (asks (listing_in c.in-Decode.input c.in-Decode.format c.in-Decode.texts) (λ listing. reads (file_input c.in-Decode.file) content.Words (ListsWords listing.0 listing.1) (λ console. ⊥)
-    (IsTrue c.args.terminals.errors))
-    (g.I.Inputs.last_asked c.decode_file.new.inputs) ((c.decode_file.new.inputs ≡ c.args.inputs.now) × (c.decode_file.new.source ≡ c.args.source.now)) c.decode_file.ensures.unused
-    (λ values. c.decode_file.ensures.asked))
+    (c.decode_file.ensures.decodes (g.E.Sink.state c.args.errors.now) (g.E.Sink.state c.decode_file.new.errors))
 
 pub returns-in-Decode-clause-silent : goal.returns-in-Decode-clause-silent
 returns-in-Decode-clause-silent g c =
     of_equal (λ (effect : Effect). ¬ effect.Reports → c.decode_file.new.errors ≡ c.args.errors.now)
     c.args.terminals _ _ c.in-Decode.is
-    (silent (listing_in c.in-Decode.input c.in-Decode.format c.in-Decode.texts) (λ listing.
-    reads (file_input c.in-Decode.file) content.Words (ListsWords listing.0 listing.1) (λ console. ⊥) (IsTrue c.args.terminals.errors))
-    (c.decode_file.new.errors ≡ c.args.errors.now) (λ refused. c.decode_file.ensures.silent (λ both. refused both.1)) (λ values unreported. c.decode_file.ensures.silent (λ both. unreported both.0)))
+    c.decode_file.ensures.silent
 
 pub returns-in-Annotate-clause-executes : goal.returns-in-Annotate-clause-executes
 returns-in-Annotate-clause-executes g c =
@@ -211,35 +186,13 @@ returns-in-RoundList-clause-executes g c =
     of_equal (λ (effect : Effect). OnDevices (effect.Does (console_of (g.I.Inputs.bytes_of c.args.inputs.now) (g.I.Opened.Source.state c.round_file.new.source) (g.W.Sink.state c.args.sink.now)
     (g.W.Sink.state c.round_file.new.sink) (g.E.Sink.state c.args.errors.now) (g.E.Sink.state c.round_file.new.errors))) c.round_file.result)
     c.args.terminals _ _ c.in-RoundList.is
-    (does (place_in c.in-RoundList.base) (λ base. reads (file_input (Some c.in-RoundList.file)) content.Words (RoundsLengths c.in-RoundList.base c.args.terminals.errors base)
-    (λ console. ⊥) (IsTrue c.args.terminals.errors))
-    (console_of (g.I.Inputs.bytes_of c.args.inputs.now) (g.I.Opened.Source.state c.round_file.new.source) (g.W.Sink.state c.args.sink.now)
-    (g.W.Sink.state c.round_file.new.sink) (g.E.Sink.state c.args.errors.now) (g.E.Sink.state c.round_file.new.errors)) c.round_file.result c.round_file.ensures.rounds)
-
-pub returns-in-RoundList-clause-open : goal.returns-in-RoundList-clause-open
-returns-in-RoundList-clause-open g c =
-    of_equal (λ (effect : Effect). c.round_file.result ≡ Err fault.Open → IfSome effect.input (λ asked. IsFile asked.input))
-    c.args.terminals _ _ c.in-RoundList.is
-    (λ refused. opens (place_in c.in-RoundList.base) (λ base. reads (file_input (Some c.in-RoundList.file)) content.Words (RoundsLengths c.in-RoundList.base c.args.terminals.errors base)
-    (λ console. ⊥) (IsTrue c.args.terminals.errors)) (λ values. c.round_file.ensures.open refused))
-
-pub returns-in-RoundList-clause-asked : goal.returns-in-RoundList-clause-asked
-returns-in-RoundList-clause-asked g c =
-    of_equal (λ (effect : Effect). IsUnasked effect.input (g.I.Inputs.last_asked c.round_file.new.inputs)
-    → ((c.round_file.new.inputs ≡ c.args.inputs.now) × (c.round_file.new.source ≡ c.args.source.now)))
-    c.args.terminals _ _ c.in-RoundList.is
-    (asks (place_in c.in-RoundList.base) (λ base. reads (file_input (Some c.in-RoundList.file)) content.Words (RoundsLengths c.in-RoundList.base c.args.terminals.errors base)
-    (λ console. ⊥) (IsTrue c.args.terminals.errors))
-    (g.I.Inputs.last_asked c.round_file.new.inputs) ((c.round_file.new.inputs ≡ c.args.inputs.now) × (c.round_file.new.source ≡ c.args.source.now)) c.round_file.ensures.unused
-    (λ values. c.round_file.ensures.asked))
+    c.round_file.ensures.rounds
 
 pub returns-in-RoundList-clause-silent : goal.returns-in-RoundList-clause-silent
 returns-in-RoundList-clause-silent g c =
     of_equal (λ (effect : Effect). ¬ effect.Reports → c.round_file.new.errors ≡ c.args.errors.now)
     c.args.terminals _ _ c.in-RoundList.is
-    (silent (place_in c.in-RoundList.base) (λ base. reads (file_input (Some c.in-RoundList.file)) content.Words (RoundsLengths c.in-RoundList.base c.args.terminals.errors base)
-    (λ console. ⊥) (IsTrue c.args.terminals.errors))
-    (c.round_file.new.errors ≡ c.args.errors.now) (λ refused. c.round_file.ensures.silent (λ both. refused both.1)) (λ values unreported. c.round_file.ensures.silent (λ both. unreported both.0)))
+    c.round_file.ensures.silent
 
 pub returns-in-Ask-clause-silent : goal.returns-in-Ask-clause-silent
 returns-in-Ask-clause-silent g c =

@@ -54,7 +54,7 @@ returns-in-replay c = record { command = c.read_replay.ensures.command ∙ sym c
 pub read_decode-requires : goal.read_decode-requires
 read_decode-requires c =
     let wanted = subst (λ (name : Text). HasWanted name (rows_of (found_of c.args.matches.now))) c.in-decode.is c.requires in
-    record { format = wanted.0; order = wanted.1 }
+    record { format = wanted.0; order = wanted.1; search = wanted.2 }
 
 pub returns-in-decode : goal.returns-in-decode
 returns-in-decode c = record { command = c.read_decode.ensures.command ∙ sym c.in-decode.is; values = c.read_decode.ensures.values }
