@@ -8,7 +8,7 @@
  * The library libcheri_cap has the functions, static or shared. A checkout builds the
  * static one as crates/cc_ffi/out/libcc_ffi.a. Each function is proved to return what its contract
  * in crates/cc_ffi says, and the comments here say the same in words. The inline functions at the
- * end are plain C: they are tested, not proved.
+ * end are plain C: they are tested, and proved as machine code (docs/PROVED.md, "Trusted").
  *
  * Version: CHERI_CAP_VERSION is the version of this header, and cheri_cap_version() returns that of
  * the library. They are equal if the two belong together. CHERI_CAP_RELEASE is the release that the
@@ -701,7 +701,7 @@ cheri_cap_made cheri_cap_rebuild(
 CHERI_CAP_NODISCARD CHERI_CAP_CONST
 bool cheri_cap_is_subset(uint64_t high, uint64_t low, uint64_t outer_high, uint64_t outer_low) CHERI_CAP_NOEXCEPT;
 
-/* ---- Plain C over the library, which no proof covers */
+/* ---- Plain C over the library, without contracts */
 
 /*
  * The upper half of the null mask: the upper half of a word is the upper half of the layout of its

@@ -1,13 +1,19 @@
 """The A64 instructions that the functions have, and the procedure call standard AAPCS64, by Arm's manual, part C6. An instruction that
 is not here is refused."""
+import re
+
 import capstone
 import z3
 from capstone import arm64_const as c
-from lift import STACK, Lifter, Memory, Refused, State, bit_of, low, pointer, signed, top_bit, unknown, wide
+from lift import LANED, STACK, Lifter, Refused, bit_of, laned, lanes, low, pointer, signed, top_bit, unknown, vector, wide
 from model import bits, bv
 
 ALIASES = {"fp": "x29", "lr": "x30"}
 SHIFTS = {c.ARM64_SFT_LSL: lambda a, n: a << n, c.ARM64_SFT_LSR: z3.LShR, c.ARM64_SFT_ASR: lambda a, n: a >> n}
+# a vector of 128 bits, its lowest part, or a lane, and the bits of a lane by its letter
+VIEW = re.compile(r"\{?([vqds])(\d+)(?:\.(16b|2d|d)(?:\[(\d)\])?)?\}?")
+BITS = {"b": 8, "s": 32, "d": 64, "q": 128}
+PACKED = {"and": "and", "orr": "or", "eor": "xor", "add": "add", "umax": "max", "umin": "min", "uqadd": "saturated", "cmhi": "above", "cmeq": "equal"}
 NAMED = {"lsl": c.ARM64_SFT_LSL, "lsr": c.ARM64_SFT_LSR, "asr": c.ARM64_SFT_ASR}
 
 
@@ -105,6 +111,9 @@ class A64(Lifter):
 
     def step(self, state, one):
         name, operands = one.mnemonic, one.operands
+        views = [VIEW.fullmatch(it) for it in one.op_str.split(", ")]
+        if any(views):
+            return self.vector(state, one, name, views)
         target = one.reg_name(operands[0].reg) if operands and operands[0].type == c.ARM64_OP_REG else ""
         size = 32 if target.startswith("w") else 64
         get, put = lambda k: self.get(state, one, k, size), lambda term: self.write(state, target, term)
@@ -114,7 +123,9 @@ class A64(Lifter):
                 raise Refused(f"an operand of {name} {one.op_str}")
             return operands[k].imm
 
-        if name in ("mov", "movz", "movn", "mvn"):
+        if name == "adrp":
+            put(bv(number(1), 64))
+        elif name in ("mov", "movz", "movn", "mvn"):
             put(get(1) if name.startswith("mov") and name != "movn" else ~get(1))
         elif name == "movk":
             lowest = operands[1].shift.value if operands[1].shift.type else 0
@@ -194,16 +205,90 @@ class A64(Lifter):
             raise Refused(f"instruction {name} {one.op_str}")
         return None
 
+    def vector(self, state, one, name, views):
+        """An instruction of vectors, of which the last views may be others or none."""
+        first, sizes = views[0], [it and BITS[(it[3] or it[1])[-1]] for it in views]
+
+        def get(k):
+            if views[k] is None:
+                return self.read(state, one.reg_name(one.operands[k].reg))
+            held = state.regs[f"v{views[k][2]}"]
+            return lanes(held, sizes[k])[int(views[k][4] or 0)] if views[k][4] or not views[k][3] else held
+
+        def put(term, k=0):
+            state.regs[f"v{views[k][2]}"] = z3.simplify(wide(term, 128))
+
+        if name in ("ldr", "ldur", "ldp"):
+            place = self.address(state, one, 1 + (name == "ldp"))
+            for k in range(1 + (name == "ldp")):
+                put(state.memory.load(place + k * sizes[k] // 8, sizes[k] // 8), k)
+        elif name in ("str", "stur", "stp"):
+            place = self.address(state, one, 1 + (name == "stp"))
+            for k in range(1 + (name == "stp")):
+                self.store(state, place + k * sizes[k] // 8, get(k), sizes[k] // 8)
+        elif name in ("fmov", "mov", "umov") and not first:
+            self.write(state, one.reg_name(one.operands[0].reg), get(1))
+        elif name in ("fmov", "ins") and first[4] and not views[1]:
+            parts = lanes(state.regs[f"v{first[2]}"], sizes[0])
+            parts[int(first[4])] = get(1)
+            put(vector(parts))
+        elif name == "fmov" and not views[1]:
+            put(get(1))
+        elif any(it and not it[3] for it in views) or first[4]:
+            raise Refused(f"instruction {name} {one.op_str}")
+        elif name == "movi":
+            put(vector([bv(one.operands[1].imm, sizes[0])] * (128 // sizes[0])))
+        elif name in ("ushr", "shl"):
+            count = one.operands[2].imm
+            put(laned(lambda a: z3.LShR(a, count) if name == "ushr" else a << count, sizes[0], get(1)))
+        elif name in PACKED:
+            put(laned(LANED[PACKED[name]], sizes[0], get(1), get(2)))
+        elif name in ("addp", "uzp1", "uzp2"):
+            parts = lanes(get(1), sizes[0]) + lanes(get(2), sizes[0])
+            even, odd = parts[::2], parts[1::2]
+            put(vector({"addp": [a + b for a, b in zip(even, odd)], "uzp1": even, "uzp2": odd}[name]))
+        elif name == "ext" and sizes[0] == 8:
+            count = one.operands[3].imm
+            put(vector([*lanes(get(1), 8), *lanes(get(2), 8)][count : count + 16]))
+        elif name == "rev64":
+            put(vector([it for half in lanes(get(1), 64) for it in reversed(lanes(half, sizes[0]))]))
+        elif name == "tbl":
+            table = [part for k in range(1, len(views) - 1) for part in lanes(get(k), 8)]
+            put(vector([self.entry(table, z3.simplify(it)) for it in lanes(get(len(views) - 1), 8)]))
+        else:
+            raise Refused(f"instruction {name} {one.op_str}")
+        return None
+
+    @staticmethod
+    def entry(table, index):
+        found = bv(0, 8)
+        for k, part in enumerate(table):
+            found = z3.If(index == k, part, found)
+        return found
+
+    def placed(self, one, found):
+        """A constant is at a page, which a register got before, and an offset."""
+        if one.mnemonic == "adrp":
+            return (one.mnemonic, one.op_str.split(",")[0]), range(0)
+        if not one.mnemonic.startswith("ld"):
+            return None
+        memory, address = one.operands[-1].mem, one.address - 4
+        while address in found and found[address].operands and found[address].operands[0].reg != memory.base:
+            address -= 4
+        if address not in found or found[address].mnemonic != "adrp" or memory.index or not one.mnemonic == "ldr":
+            return None
+        place, size = found[address].operands[1].imm + memory.disp, BITS.get(one.op_str[0], 64 if one.op_str[0] == "x" else 32) // 8
+        return (one.mnemonic, one.op_str.split(",")[0], one.reg_name(memory.base)), range(place, place + size)
+
     # ---- the ABI
 
-    def call(self, entry, arguments, stacked, size):
+    def call(self, entry, arguments, function):
         """Returns the ends of a call, as x86.py does. A struct of more than 16 bytes is given by a pointer to it."""
-        memory = Memory(
-            self.image, {"SP": (-STACK, 0, 0), "OUT": (0, size, size), "STRUCT": (0, 0, len(stacked))},
-            {("STRUCT", k): byte for k, byte in enumerate(stacked)},
-        )
-        regs = {f"x{n}": pointer(f"x{n}!entry") for n in range(31)} | {"sp": pointer("SP")}
+        stacked, size = function.struct, function.in_memory
+        regions = {"SP": (-STACK, 0, 0), "OUT": (0, size, size), "STRUCT": (0, 0, len(stacked))}
+        held = {("STRUCT", k): byte for k, byte in enumerate(stacked)}
+        regs = {f"x{n}": pointer(f"x{n}!entry") for n in range(31)} | {"sp": pointer("SP")} | {f"v{n}": unknown(128, "v") for n in range(32)}
         given = [pointer("STRUCT")] * bool(stacked) + arguments
         regs |= {f"x{n}": term for n, term in enumerate(given)} | ({"x8": pointer("OUT")} if size else {})
-        ends = self.run(State(regs, {name: unknown(0, name) for name in "NZCV"}, memory, entry))
-        return [(end.path, end.memory.load(pointer("OUT"), size) if size else z3.Concat(end.regs["x1"], end.regs["x0"])) for end in ends]
+        ends = self.called(entry, regs, {name: unknown(0, name) for name in "NZCV"}, regions, held, function)
+        return [(end, z3.Concat(end.regs["x1"], end.regs["x0"])) for end in ends]

@@ -10,15 +10,29 @@ WORD, OTHER = Fields(HIGH, LOW), Fields(OTHER_HIGH, OTHER_LOW)
 HALVES, PAIR, REQUEST = [HIGH, LOW], [HIGH, LOW, OTHER_HIGH, OTHER_LOW], [LENGTH_HIGH, LENGTH_LOW]
 
 
-class Function:
-    """inputs: the variables of 64 bits, or (variable, its lowest bits that count). layout: (field, offset, bytes) of the result. result():
-    the terms of the fields. split: the cases of prove.py that it is proved by, unless it is in WAYS there. struct: the bytes of a struct that it takes."""
+class Buffer:
+    """A pointer to bytes: its type in the header, the terms of those that are read, or the number of those that are written."""
 
-    def __init__(self, inputs, layout, result, *split, struct=()):
+    def __init__(self, name, type, held=(), written=0):
+        self.name, self.type, self.held, self.written = name, type, [*held], written
+
+    def __repr__(self):
+        return f"{self.type}: {self.held} {self.written}"
+
+
+class Function:
+    """inputs: variables of 64 bits, (variable, its lowest bits that count, the bits of its type), or buffers. layout: (field, offset, bytes) of the result, or
+    of the buffer that is written. result(): the terms of the fields. split: the cases of prove.py that it is proved by, unless it is in WAYS
+    there. struct: the bytes of a struct that it takes. premises: what the inputs are like. types: those of the header, if the inputs do not say them."""
+
+    def __init__(self, inputs, layout, result, *split, struct=(), premises=(), types=()):
         self.inputs, self.layout, self.result, self.split, self.struct = inputs, layout, result, split, [*struct]
+        self.premises, self.types = [*premises], types
+        self.buffers = [it for it in inputs if isinstance(it, Buffer)]
+        self.written = next((it for it in self.buffers if it.written), None)
         size = max(offset + size for _, offset, size in layout)
         # a larger result is in memory, in whole words of 8 bytes
-        self.in_memory = (size + 7) // 8 * 8 if size > 16 else 0
+        self.in_memory = (size + 7) // 8 * 8 if size > 16 and not self.written else 0
 
 
 def layout(text):
@@ -30,20 +44,28 @@ def layout(text):
     return found
 
 
+def written(count):
+    """Bytes, by their places."""
+    return [(str(k), k, 1) for k in range(count)]
+
+
 U128, MADE = layout("high 8 low 8"), layout("high 8 low 8 refusal 1")
 FIELDS = layout("address 8 otype 4 perms 2 t 2 b 2 reserved 1 flag 1 ie 1")
 PACKED = {name: z3.BitVec(f"field_{name}", 8 * size) for name, _, size in FIELDS}
-PACKED_BYTES = [bits(term, 8 * k + 7, 8 * k) for term in PACKED.values() for k in range(term.size() // 8)]
 PADDING = [z3.BitVec(f"padding_{k}", 8) for k in range(3)]
 
 
-def value(size, inputs, term, *split):
+def value(size, inputs, term, *split, **more):
     """A function whose result is one number of so many bytes."""
-    return Function(inputs, [("value", 0, size)], lambda: {"value": ext(term(), 8 * size)}, *split)
+    return Function(inputs, [("value", 0, size)], lambda: {"value": ext(term(), 8 * size)}, *split, **more)
 
 
 def byte(condition):
     return model.one(condition, 8)
+
+
+def bytes_of(*terms):
+    return [bits(term, 8 * k + 7, 8 * k) for term in terms for k in range(term.size() // 8)]
 
 
 def whole(condition, term):
@@ -222,10 +244,84 @@ def rebuild():
     return made(checks, OTHER_HIGH, OTHER_LOW)
 
 
+# ---- words as digits
+
+READ, TEXT = layout("high 8 low 8 found 1"), [z3.BitVec(f"text_{k}", 8) for k in range(32)]
+
+
+def read_word():
+    """Each of 32 digits of either case is four bits, the first one the highest."""
+    is_decimal, is_lower, is_upper = ([z3.And(z3.UGE(it, ord(first)), z3.ULE(it, ord(last))) for it in TEXT] for first, last in ("09", "af", "AF"))
+    digits = [
+        z3.If(decimal, it - ord("0"), z3.If(lower, it - ord("a") + 10, it - ord("A") + 10)) for it, decimal, lower in zip(TEXT, is_decimal, is_lower)
+    ]
+    found = z3.And(*map(z3.Or, is_decimal, is_lower, is_upper))
+    word = z3.Concat(*[bits(it, 3, 0) for it in digits])
+    return {name: whole(found, term) for name, term in halves(word).items()} | {"found": byte(found)}
+
+
+def write_word():
+    fours = [ext(bits(half, k + 3, k), 8) for half in HALVES for k in range(60, -1, -4)]
+    return {str(n): z3.If(z3.ULT(it, 10), it + ord("0"), it - 10 + ord("a")) for n, it in enumerate(fours)}
+
+
+# ---- the inline functions, as a compiler makes them
+
+# a file of them as functions, and of two whose place in memory an argument says, for each value of that
+INLINE_SOURCE = """#include <stdbool.h>
+#include <stdint.h>
+#include <string.h>
+#define static
+#define inline
+#include "cheri_cap.h"
+cheri_cap_u128 cheri_cap_word_from_bytes_0(const uint8_t *bytes) { return cheri_cap_word_from_bytes(bytes, false); }
+cheri_cap_u128 cheri_cap_word_from_bytes_1(const uint8_t *bytes) { return cheri_cap_word_from_bytes(bytes, true); }
+void cheri_cap_word_to_bytes_0(cheri_cap_u128 word, uint8_t *bytes) { cheri_cap_word_to_bytes(word, bytes, false); }
+void cheri_cap_word_to_bytes_1(cheri_cap_u128 word, uint8_t *bytes) { cheri_cap_word_to_bytes(word, bytes, true); }
+"""
+BOOL = (NUMBER, 1, 32)  # clang takes it that a bool has 32 bits, as an inlined one has
+TOP = z3.Concat(LENGTH_HIGH, OTHER_HIGH)
+BOUNDS = Buffer("BOUNDS", "const cheri_cap_bounds *", bytes_of(BASE, bits(TOP, 127, 64), bits(TOP, 63, 0)))
+IN_GRANTED = T, B, IE = z3.BitVec("granted_t", 16), z3.BitVec("granted_b", 16), z3.BitVec("granted_ie", 1)
+GRANTED = Buffer("GRANTED", "const cheri_cap_granted *", [*BOUNDS.held, *bytes_of(T, B), bv(0, 8), ext(IE, 8)])
+
+
+def root():
+    """Every permission over every address, at address 0."""
+    fields = {"perms": bv(-1, 16), "reserved": bv(0, 2), "flag": bv(0, 1), "otype": bv(0x3FFFF, 18), "ie": bv(1, 1)}
+    g = Granted(bv(0, 64), bv(model.TWO64, 128))
+    return {"high": model.word_high(**fields, t=g.t, b=g.b), "low": bv(0, 64)}
+
+
+def compare():
+    one, other = z3.Concat(HIGH, LOW), z3.Concat(OTHER_HIGH, OTHER_LOW)
+    return z3.If(z3.ULT(one, other), bv(-1, 32), z3.If(one == other, bv(0, 32), bv(1, 32)))
+
+
+def holds(address, size):
+    """Whether the bounds hold so many bytes, none of them past 2^64 - 1."""
+    end = ext(address, 130) + (ext(size, 130) if z3.is_bv(size) else size)
+    return z3.And(z3.ULE(BASE, address), z3.ULE(end, ext(TOP, 130)), z3.ULE(end, bv(model.TWO64, 130)))
+
+
+def word_from_bytes(is_big):
+    found = TEXT[:16] if is_big else TEXT[15::-1]
+    return Function([Buffer("TEXT", "const uint8_t *", TEXT[:16])], U128, lambda: halves(z3.Concat(*found)))
+
+
+def word_to_bytes(is_big):
+    found = bytes_of(LOW, HIGH)[:: -1 if is_big else 1]
+    return Function([*HALVES, Buffer("TEXT", "uint8_t *", written=16)], written(16), lambda: dict(zip(map(str, range(16)), found)))
+
+
+def with_bounds():
+    return {"high": changed(WORD, t=bits(T, 11, 0), b=bits(B, 13, 0), ie=IE), "low": LOW}
+
+
 FUNCTIONS = {
     "version": value(4, [], lambda: bv(1, 32)),
     "unpack": Function(HALVES, FIELDS, unpack),
-    "pack": Function([], U128, pack, struct=PACKED_BYTES + PADDING),
+    "pack": Function([], U128, pack, struct=bytes_of(*PACKED.values()) + PADDING),
     "perms": value(2, HALVES, lambda: WORD.perms),
     "otype": value(4, HALVES, lambda: WORD.otype),
     "flag": value(1, HALVES, lambda: WORD.flag),
@@ -248,17 +344,55 @@ FUNCTIONS = {
     "increment": Function([*HALVES, NUMBER], MADE, lambda: moved(LOW + NUMBER), "word"),
     "set_bounds_on": Function(HALVES + REQUEST, MADE, lambda: narrowed(False), "word", "length"),
     "set_bounds_exact_on": Function(HALVES + REQUEST, MADE, lambda: narrowed(True), "word", "length"),
-    "and_perms": Function([*HALVES, (NUMBER, 16)], MADE, and_perms, "word"),
-    "set_flag": Function([*HALVES, (NUMBER, 1)], MADE, set_flag, "word"),
+    "and_perms": Function([*HALVES, (NUMBER, 16, 16)], MADE, and_perms, "word"),
+    "set_flag": Function([*HALVES, (NUMBER, 1, 1)], MADE, set_flag, "word"),
     "seal": Function(PAIR, MADE, seal, "word", "other"),
     "unseal": Function(PAIR, MADE, unseal, "word", "other"),
     "rebuild": Function(PAIR, MADE, rebuild, "word", "other"),
+    "read_word": Function([Buffer("TEXT", "const char *", TEXT), bv(32, 64)], READ, read_word, types=["const char *", "size_t"]),
+    # nothing is read of a text of another length
+    "read_word:other": Function(
+        [Buffer("TEXT", "const char *"), NUMBER], READ, lambda: {it: bv(0, 8 * size) for it, _, size in READ}, premises=[NUMBER != 32]
+    ),
+    "write_word": Function([*HALVES, Buffer("TEXT", "char *", written=32)], written(32), write_word),
 }
-# not proved here: loops over arrays and texts
+INLINE = {
+    "null": Function([], U128, lambda: {"high": bv(0, 64), "low": bv(0, 64)}),
+    "root": Function([], U128, root),
+    "perms_of": value(2, [HIGH], lambda: WORD.perms),
+    "otype_of": value(4, [HIGH], lambda: WORD.otype),
+    "is_sealed": value(1, [HIGH], lambda: byte(z3.Not(is_unsealed(WORD)))),
+    "is_sentry": value(1, [HIGH], lambda: byte(WORD.otype == 0x3FFFE)),
+    "compare": value(4, PAIR, compare, types=["cheri_cap_u128"] * 2),
+    "top": Function([BOUNDS], U128, lambda: halves(TOP)),
+    "length": Function([BOUNDS], U128, lambda: halves(TOP - ext(BASE, 128))),
+    "offset": value(8, [BOUNDS, NUMBER], lambda: NUMBER - BASE),
+    "swapped": value(8, [NUMBER], lambda: z3.Concat(*bytes_of(NUMBER))),
+    "is_big_endian": value(1, [], lambda: bv(0, 8)),
+    **{f"word_from_bytes_{is_big}": word_from_bytes(is_big) for is_big in (0, 1)},
+    **{f"word_to_bytes_{is_big}": word_to_bytes(is_big) for is_big in (0, 1)},
+    "bounds_hold": value(1, [BOUNDS, NUMBER], lambda: byte(holds(NUMBER, 1))),
+    "bounds_hold_bytes": value(1, [BOUNDS, NUMBER, LOW], lambda: byte(holds(NUMBER, LOW))),
+    "set_offset": Function([*HALVES, NUMBER], MADE, lambda: moved(model.decode(WORD)[0] + NUMBER), "word"),
+    "with_address": Function([*HALVES, NUMBER], U128, lambda: {"high": HIGH, "low": NUMBER}),
+    "with_perms": Function([*HALVES, (NUMBER, 16, 16)], U128, lambda: {"high": changed(WORD, perms=bits(NUMBER, 15, 0)), "low": LOW}),
+    "with_flag": Function([*HALVES, BOOL], U128, lambda: {"high": changed(WORD, flag=bits(NUMBER, 0, 0)), "low": LOW}),
+    "with_type": Function([*HALVES, NUMBER], U128, lambda: {"high": changed(WORD, otype=bits(NUMBER, 17, 0)), "low": LOW}),
+    "with_bounds": Function([*HALVES, GRANTED], U128, with_bounds),
+}
+FUNCTIONS |= INLINE
+# not proved here: loops over arrays, and a text of some length
 OTHERS = """decode_many is_canonical_many represents_many set_bounds_many round_length_many alignment_mask_many decode_memory is_canonical_memory
-represents_memory search_memory set_bounds_memory read_word write_word format""".split()
+represents_memory search_memory set_bounds_memory format""".split()
+
+# a pointer to a name, and the two that the file above has for each value of an argument
+OTHER_INLINE = "refusal_name word_from_bytes word_to_bytes".split()
 
 
-def are_all(names):
-    """Whether these are the functions of the table, and others."""
-    return {*names} == {*FUNCTIONS, *OTHERS}
+def in_file(symbols):
+    """Returns the functions of the table that are in a file with these symbols, the library's or all, or None if it has others or lacks some."""
+    library = {*OTHERS, *(it.partition(":")[0] for it in FUNCTIONS if it not in INLINE)}
+    more = {*INLINE, *OTHER_INLINE}
+    if {*symbols} not in (library, library | more):
+        return None
+    return [it for it in FUNCTIONS if it.partition(":")[0] in symbols]

@@ -79,6 +79,31 @@ def unknown(size, why="undefined"):
     return z3.BitVec(name, size) if size else z3.Bool(name)
 
 
+def lanes(term, size):
+    """Returns the parts of a vector, the lowest first."""
+    return [bits(term, k + size - 1, k) for k in range(0, term.size(), size)]
+
+
+def vector(parts):
+    return z3.Concat(*reversed(parts))
+
+
+def laned(meaning, size, *vectors):
+    """Returns the vector of what is done to each lane of the others."""
+    return vector([meaning(*it) for it in zip(*(lanes(term, size) for term in vectors))])
+
+
+# what vectors are used for, lane by lane
+LANED = {
+    "and": lambda a, b: a & b, "or": lambda a, b: a | b, "xor": lambda a, b: a ^ b, "add": lambda a, b: a + b,
+    "max": lambda a, b: z3.If(z3.UGT(a, b), a, b), "min": lambda a, b: z3.If(z3.ULT(a, b), a, b),
+    "saturated": lambda a, b: z3.If(z3.ULT(a + b, a), bv(-1, a.size()), a + b),
+    "equal": lambda a, b: z3.If(a == b, bv(-1, a.size()), bv(0, a.size())),
+    "above": lambda a, b: z3.If(z3.UGT(a, b), bv(-1, a.size()), bv(0, a.size())),
+    "signed_above": lambda a, b: z3.If(a > b, bv(-1, a.size()), bv(0, a.size())),
+}
+
+
 def pointer(name):
     return z3.BitVec(name, 64)
 
@@ -87,14 +112,15 @@ class Memory:
     """Bytes of regions that do not overlap. A region is a pointer's name, and what may be read and written there: the offsets from the
     pointer of (the first byte, the end of what may be written, the end of what may be read)."""
 
-    def __init__(self, image, regions, held=()):
-        self.image, self.regions, self.bytes = image, regions, dict(held)
+    def __init__(self, lifter, regions, held=()):
+        self.lifter, self.regions, self.bytes = lifter, regions, dict(held)
 
     def copy(self):
-        return Memory(self.image, self.regions, self.bytes)
+        return Memory(self.lifter, self.regions, self.bytes)
 
     def place(self, address):
-        address = z3.simplify(address)
+        # no pointer is null
+        address = z3.simplify(z3.substitute(address, *[(pointer(it) == 0, z3.BoolVal(False)) for it in self.regions]))
         if z3.is_bv_value(address):
             return None, address.as_long()
         for name in self.regions:
@@ -106,7 +132,9 @@ class Memory:
     def load(self, address, size):
         region, start = self.place(address)
         if region is None:
-            found = [bv(self.image.constant(it), 8) for it in range(start, start + size)]
+            if self.lifter.constants.get(self.lifter.at) != range(start, start + size):
+                raise Refused(f"reads {start:#x}, which is not the constant of its text")
+            found = [bv(self.lifter.image.constant(it), 8) for it in range(start, start + size)]
         else:
             first, _, end = self.regions[region]
             if not first <= start <= start + size <= end:
@@ -145,6 +173,8 @@ class Lifter:
 
     def __init__(self, image):
         self.image, self.decoded = image, {}
+        # the places of the constants by the addresses of the instructions that read them, and of the instruction that is run
+        self.constants, self.at = {}, None
 
     def instruction(self, address):
         if address not in self.decoded:
@@ -177,19 +207,23 @@ class Lifter:
 
     def text(self, entry):
         """Returns the code of a function without the places of its parts in the file: each instruction with the number of those that
-        can follow it, and the constants."""
+        can follow it, and the constants. For an instruction that reads or has the place of a constant, placed() has its text without it."""
         found = self.code(entry)
         number = {address: n for n, address in enumerate(found)}
         lines = []
         for address, one in found.items():
-            jump = self.target(one)
-            text = self.apart(one) if jump is None else (one.mnemonic, one.op_str.rpartition(",")[0], number[jump])
+            jump, placed = self.target(one), self.placed(one, found)
+            text = bytes(one.bytes) if jump is None else (one.mnemonic, one.op_str.rpartition(",")[0], number[jump])
+            if placed:
+                text, places = placed
+                text = text, places and places[0] % 16, bytes(map(self.image.constant, places))
+                self.constants[address] = places
             lines.append((number.get(address + one.size), text))
         return lines
 
-    def apart(self, one):
-        """Returns the bytes of an instruction that is no jump. For the place of a constant they have the constant."""
-        return bytes(one.bytes)
+    def placed(self, one, found):
+        """Returns the text and the places, or None."""
+        raise NotImplementedError
 
     def run(self, state):
         """Returns the states in which the function has returned. Their paths exclude each other, and every input takes one."""
@@ -203,7 +237,7 @@ class Lifter:
                     raise Refused(f"a loop through {state.pc:#x}")
                 state.visited.add((state.calls, state.pc))
                 one = self.instruction(state.pc)
-                state.pc = one.address + one.size
+                self.at, state.pc = one.address, one.address + one.size
                 jump = self.step(state, one)
                 if jump is None:
                     continue
@@ -222,6 +256,15 @@ class Lifter:
             if state.returned:
                 ends.append(state)
         return ends
+
+    def called(self, entry, regs, flags, regions, held, function):
+        """Returns the states in which a function of functions.py has returned, with what its pointers lead to in memory too."""
+        regions |= {it.name: (0, it.written, max(it.written, len(it.held))) for it in function.buffers}
+        held |= {(it.name, k): byte for it in function.buffers for k, byte in enumerate(it.held)}
+        self.text(entry)
+        state = State(regs, flags, Memory(self, regions, held), entry)
+        state.path += function.premises
+        return self.run(state)
 
     @staticmethod
     def is_possible(solver, state):

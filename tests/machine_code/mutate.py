@@ -28,6 +28,12 @@ MODEL = (
     ("z3.ULE(top, bv(TWO64, 65))", "z3.ULT(top, bv(TWO64, 65))", "represents"),
     ("bits(above, 8, 0), bits(digits, 5, 3)", "bits(above, 8, 0), bits(digits, 2, 0)", "set_bounds"),
     ("(g.exact, INEXACT)", "(z3.Not(g.exact), INEXACT)", "set_bounds_exact_on"),
+    ('("09", "af", "AF")', '("09", "af", "AG")', "read_word"),
+    ("it - 10 + ord", "it - 9 + ord", "write_word"),
+    ("bv(-1, 32), z3.If(one", "bv(1, 32), z3.If(one", "compare"),
+    ("z3.ULE(end, ext(TOP, 130))", "z3.ULT(end, ext(TOP, 130))", "bounds_hold"),
+    ("z3.ULE(end, bv(model.TWO64, 130))", "z3.ULT(end, bv(model.TWO64, 130))", "bounds_hold_bytes"),
+    ("model.decode(WORD)[0] + NUMBER", "LOW + NUMBER", "set_offset"),
 )
 # the borrow is left out of the carry of sbb and sbc
 LIFTER = {
@@ -138,11 +144,13 @@ def main():
 
     path, count, seed = str(Path(sys.argv[1]).resolve()), int((sys.argv[2:] or ["0"])[0]), int((sys.argv[3:] or ["1"])[0])
     only = {*map(int, sys.argv[4:])}
-    for old, new, name in MODEL if not only else ():
+    image = lift.Image(path)
+    names = [it for it in prove.FUNCTIONS if f"cheri_cap_{it.partition(':')[0]}" in image.functions]
+    for old, new, name in (it for it in MODEL if not only and it[2] in names):
         file = next(it for it in ("model.py", "functions.py") if old in (HERE / it).read_text())
         print(f"{file}: {new}: {said(PROVE, path, name, change=(file, old, new), inputs=INPUTS)[:150]}", flush=True)
-    image, chance, places, counted = lift.Image(path), random.Random(seed), [], {}
-    for name in prove.FUNCTIONS:
+    chance, places, counted = random.Random(seed), [], {}
+    for name in names:
         machine, entry = prove.machine_of(image, name)
         places += [(name, one) for _, one in sorted(machine.code(entry).items())]
     number = 0

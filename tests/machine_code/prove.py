@@ -7,7 +7,7 @@ import functions
 import model
 import z3
 from functions import FUNCTIONS, HIGH, LENGTH, LENGTH_HIGH, LENGTH_LOW, LOW, NUMBER, OTHER_HIGH, PAIR
-from lift import Refused, wide
+from lift import Refused, pointer, wide
 from model import bits, bv
 
 EFFORT = 400_000_000  # of a query, in z3's own unit: some two minutes
@@ -132,21 +132,31 @@ def machine_of(image, name):
         from x86 import X86 as Machine
     else:
         from a64 import A64 as Machine
-    if f"cheri_cap_{name}" not in image.functions:
+    symbol = f"cheri_cap_{name.partition(':')[0]}"
+    if symbol not in image.functions:
         raise Refused("the file has no such function")
-    return Machine(image), image.functions[f"cheri_cap_{name}"]
+    return Machine(image), image.functions[symbol]
 
 
 def ends_of(image, name):
     """Returns the ends of a function: the conditions of the path to it, and the fields of the result."""
     function, arguments, (machine, entry) = FUNCTIONS[name], [], machine_of(image, name)
     for one in function.inputs:
-        variable, size = one if isinstance(one, tuple) else (one, 64)
-        # the ABIs leave the bits above a narrow argument open
-        arguments.append(z3.Concat(z3.BitVec(f"junk_{64 - size}", 64 - size), bits(variable, size - 1, 0)) if size < 64 else variable)
+        if isinstance(one, functions.Buffer):
+            one = pointer(one.name)
+        elif isinstance(one, tuple):
+            variable, size, filled = one
+            # the ABIs leave the bits above a narrow argument open
+            one = z3.Concat(z3.BitVec(f"junk_{64 - filled}", 64 - filled), wide(bits(variable, size - 1, 0), filled))
+        arguments.append(one)
     cut = [(field, 8 * (offset + size) - 1, 8 * offset) for field, offset, size in function.layout]
-    ends = machine.call(entry, arguments, function.struct, function.in_memory)
-    return [(path, {field: z3.simplify(bits(result, high, lowest)) for field, high, lowest in cut}) for path, result in ends]
+    ends = []
+    for end, result in machine.call(entry, arguments, function):
+        if function.in_memory or function.written:
+            place, size = ("OUT", function.in_memory) if function.in_memory else (function.written.name, function.written.written)
+            result = end.memory.load(pointer(place), size)
+        ends.append((end.path, {field: z3.simplify(bits(result, high, lowest)) for field, high, lowest in cut}))
+    return ends
 
 
 def merged(ends, field, at=0):
@@ -371,7 +381,19 @@ def moved(_, ends, wanted):
     never(differing(ends, wanted), "the result", cases)
 
 
-WAYS = {"increment": moved, "set_bounds": bounds, "lost": bounds, "set_bounds_on": bounded, "set_bounds_exact_on": bounded}
+def offset(_, ends, wanted):
+    """set_offset: first that the code adds the number to the word's base, and then, as for increment, for every new address."""
+    added = [fields["low"] for _, fields in ends if not z3.is_bv_value(fields["low"])]
+    if not added:
+        raise NotProved("no word", None)
+    base = z3.simplify(z3.substitute(added[0], (NUMBER, bv(0, 64))))
+    never(z3.Or(*[it != base + NUMBER for it in added]), "the new address")
+    never(base != model.decode(functions.WORD)[0], "the base", CASES["word"])
+    term = differing(ends, functions.moved(base + NUMBER))
+    by_cases(z3.simplify(z3.substitute(term, (NUMBER, NUMBER - base))), "the result", "word")
+
+
+WAYS = {"increment": moved, "set_offset": offset, "set_bounds": bounds, "lost": bounds, "set_bounds_on": bounded, "set_bounds_exact_on": bounded}
 WAYS |= {it: two_words for it in "is_subset seal unseal rebuild".split()}
 
 
@@ -379,7 +401,7 @@ def prove(name, ends):
     """Raises NotProved, unless the ends of a function have the fields of the model."""
     wanted = FUNCTIONS[name].result()
     assert ends and {*wanted} == {field for field, _, _ in FUNCTIONS[name].layout}
-    never(z3.Not(z3.Or(*[z3.And(*path) for path, _ in ends])), "an input without a path")
+    never(z3.And(*FUNCTIONS[name].premises, z3.Not(z3.Or(*[z3.And(*path) for path, _ in ends]))), "an input without a path")
     try:
         WAYS.get(name, direct)(name, ends, wanted)
     except NotProved as error:

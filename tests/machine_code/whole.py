@@ -5,12 +5,13 @@ import random
 
 import model
 import z3
-from functions import FIELDS, FUNCTIONS, NAMES, PACKED, PADDING, WORD
+from functions import FIELDS, FUNCTIONS, IN_GRANTED, NAMES, PACKED, PADDING, TEXT, WORD, Buffer
 from prove import merged, solver
 from steps import random_number
 from straight import computed
 
-VARIABLES = [z3.BitVec(name, 64) for name in NAMES.split()] + [*PACKED.values(), *PADDING, *(z3.BitVec(f"junk_{size}", size) for size in (48, 63))]
+JUNK = [z3.BitVec(f"junk_{size}", size) for size in (32, 48, 63)]
+VARIABLES = [*(z3.BitVec(name, 64) for name in NAMES.split()), *PACKED.values(), *PADDING, *TEXT, *IN_GRANTED, *JUNK]
 
 
 class X86:
@@ -25,7 +26,9 @@ class X86:
 
         entry = self.library[f"cheri_cap_{name}"]
         entry.restype = words((size or 16) // 8)
-        return bytes(entry(*map(ctypes.c_uint64, arguments), *([words(3).from_buffer_copy(struct)] if struct else [])))
+        # a pointer leads to the bytes themselves
+        given = [(ctypes.c_char * len(it)).from_buffer(it) if isinstance(it, bytearray) else ctypes.c_uint64(it) for it in arguments]
+        return bytes(entry(*given, *([words(3).from_buffer_copy(struct)] if struct else [])))
 
 
 class A64:
@@ -36,6 +39,7 @@ class A64:
         self.u, self.image, self.cpu = u, image, unicorn.Uc(unicorn.UC_ARCH_ARM64, unicorn.UC_MODE_ARM)
         self.cpu.mem_map(0, 1 << 20)
         self.cpu.mem_map(1 << 24, 1 << 16)
+        self.cpu.reg_write(u.UC_ARM64_REG_CPACR_EL1, 3 << 20)  # vectors are permitted
         for start, data, _ in image.segments:
             self.cpu.mem_write(start, bytes(data))
 
@@ -43,10 +47,15 @@ class A64:
         u, free = self.u, 1 << 24
         self.cpu.mem_write(free, struct or bytes(24))
         for n, value in enumerate([free] if struct else arguments):
-            self.cpu.reg_write(u.UC_ARM64_REG_X0 + n, value)
+            if isinstance(value, bytearray):
+                self.cpu.mem_write(free + 512, bytes(value))
+            self.cpu.reg_write(u.UC_ARM64_REG_X0 + n, free + 512 if isinstance(value, bytearray) else value)
         for register, value in (u.UC_ARM64_REG_X8, free + 256), (u.UC_ARM64_REG_SP, free + 0x8000), (u.UC_ARM64_REG_X30, free + 0xF000):
             self.cpu.reg_write(register, value)
         self.cpu.emu_start(self.image.functions[f"cheri_cap_{name}"], free + 0xF000)
+        for value in arguments:
+            if isinstance(value, bytearray):
+                value[:] = self.cpu.mem_read(free + 512, len(value))
         if size:
             return bytes(self.cpu.mem_read(free + 256, size))
         return b"".join(self.cpu.reg_read(it).to_bytes(8, "little") for it in (u.UC_ARM64_REG_X0, u.UC_ARM64_REG_X1))
@@ -71,13 +80,21 @@ def witness(path, chance):
 def real(processor, name, values):
     """Returns the fields of the result that the processor computes."""
     function, arguments = FUNCTIONS[name], []
+
+    def value(term):
+        return z3.simplify(z3.substitute(term, *[(it, model.bv(number, it.size())) for it, number in values.items()])).as_long()
+
     for one in function.inputs:
-        variable, size = one if isinstance(one, tuple) else (one, 64)
-        above = values[z3.BitVec(f"junk_{64 - size}", 64 - size)] << size if size < 64 else 0
-        arguments.append(values[variable] & (1 << size) - 1 | above)
-    packed = [(PACKED[field], size) for field, _, size in FIELDS] + [(it, 1) for it in PADDING]
-    struct = b"".join(values[term].to_bytes(size, "little") for term, size in packed) if function.struct else b""
-    given = processor.call(name, arguments, struct, function.in_memory)
+        if isinstance(one, Buffer):
+            arguments.append(bytearray(map(value, one.held)).ljust(one.written or 1, b"\0"))
+        elif isinstance(one, tuple):
+            variable, size, filled = one
+            arguments.append(value(variable) & (1 << size) - 1 | (values[z3.BitVec(f"junk_{64 - filled}", 64 - filled)] << filled))
+        else:
+            arguments.append(value(one))
+    given = processor.call(name.partition(":")[0], arguments, bytes(map(value, function.struct)), function.in_memory)
+    if function.written:
+        given = next(it for one, it in zip(function.inputs, arguments) if one is function.written)
     return {field: int.from_bytes(given[offset : offset + size], "little") for field, offset, size in function.layout}
 
 

@@ -3,7 +3,7 @@ becomes an unknown, and an instruction that is not here is refused."""
 import capstone
 import z3
 from capstone import x86_const as c
-from lift import STACK, Lifter, Memory, Refused, State, bit_of, low, pointer, signed, top_bit, unknown, wide
+from lift import LANED, STACK, Lifter, Refused, bit_of, laned, lanes, low, pointer, signed, top_bit, unknown, vector, wide
 from model import bits, bv
 
 FULL = "rax rbx rcx rdx rsi rdi rbp rsp".split() + [f"r{n}" for n in range(8, 16)]
@@ -21,6 +21,15 @@ RED_ZONE = 128
 # the other names of conditions, and the conditions that are the opposite of another
 SAME = {"c": "b", "nae": "b", "z": "e", "na": "be", "nge": "l", "ng": "le"}
 OPPOSITE = {"ae": "b", "nb": "b", "nc": "b", "ne": "e", "nz": "e", "a": "be", "nbe": "be", "ns": "s", "no": "o", "ge": "l", "nl": "l", "g": "le", "nle": "le"}
+
+
+# the bits of a lane, by the letter of its size
+LANES = {"b": 8, "w": 16, "d": 32, "q": 64}
+# what is done to each lane, and the bits of one
+PACKED = {it: (name, 64) for name in ("and", "or", "xor") for it in (f"p{name}", f"{name}ps")}
+PACKED |= {f"padd{it}": ("add", size) for it, size in LANES.items()} | {f"pcmpeq{it}": ("equal", LANES[it]) for it in "bwd"}
+PACKED |= {f"pcmpgt{it}": ("signed_above", LANES[it]) for it in "bwd"}
+PACKED |= {"pmaxub": ("max", 8), "pminub": ("min", 8), "paddusb": ("saturated", 8), "paddusw": ("saturated", 16)}
 
 
 def condition(name, flags):
@@ -60,9 +69,7 @@ class X86(Lifter):
     def address(self, state, one, operand):
         memory = operand.mem
         names = [one.reg_name(it) for it in (memory.base, memory.index) if it]
-        # the address of a constant might reach others than those that apart() sees
-        is_hidden = one.mnemonic == "lea" and memory.base == c.X86_REG_RIP
-        if memory.segment or is_hidden or any(PARTS.get(it, (it, 64))[1] != 64 for it in names):
+        if memory.segment or any(PARTS.get(it, (it, 64))[1] != 64 for it in names):
             raise Refused(f"an address of {one.mnemonic} {one.op_str}")
         total = bv(memory.disp, 64)
         if memory.base:
@@ -94,13 +101,12 @@ class X86(Lifter):
                 raise Refused("an access of 16 bytes that is not aligned")
         return place
 
-    def apart(self, one):
+    def placed(self, one, found):
         constant = next((it for it in one.operands if it.type == c.X86_OP_MEM and it.mem.base == c.X86_REG_RIP), None)
         if constant is None:
-            return bytes(one.bytes)
+            return None
         place, k = one.address + one.size + constant.mem.disp, one.disp_offset
-        held = [self.image.constant(it) for it in range(place, place + constant.size)]
-        return bytes(one.bytes[:k] + one.bytes[k + 4 :]), place % 16, bytes(held)
+        return bytes(one.bytes[:k] + one.bytes[k + 4 :]), range(place, place + constant.size * (one.mnemonic != "lea"))
 
     # ---- flags
 
@@ -177,7 +183,7 @@ class X86(Lifter):
                 self.push(state, bv(state.pc, 64))
             return z3.BoolVal(True) if name in ("jmp", "call") else condition(name[1:], state.flags), self.target(one)
         if is_vector:
-            self.vector(state, one, name, get, put, size)
+            self.vector(one, name, get, put, size)
         elif name in ("mov", "movabs"):
             put(get(1, size))
         elif name == "movzx":
@@ -216,11 +222,14 @@ class X86(Lifter):
                 result = z3.If(bits(a, k, k) == 1, bv(k, size), result)
             state.flags = {"CF": unknown(0), "OF": unknown(0), "SF": unknown(0), "ZF": z3.simplify(a == 0)}
             put(result)
-        elif name == "bt":
+        elif name in ("bt", "btr"):
             if operands[0].type != c.X86_OP_REG and operands[1].type != c.X86_OP_IMM:
                 raise Refused("bt of memory by a register")
-            state.flags["CF"] = z3.simplify(bits(z3.LShR(get(0), get(1, size) & (size - 1)), 0, 0) == 1)
+            a, place = get(0), get(1, size) & (size - 1)
+            state.flags["CF"] = z3.simplify(bits(z3.LShR(a, place), 0, 0) == 1)
             state.flags["OF"], state.flags["SF"] = unknown(0), unknown(0)
+            if name == "btr":
+                put(a & ~(bv(1, size) << place))
         elif name == "bswap":
             put(z3.Concat(*[bits(get(0), 8 * k + 7, 8 * k) for k in range(size // 8)]))
         elif name.startswith("cmov"):
@@ -238,22 +247,32 @@ class X86(Lifter):
             raise Refused(f"instruction {name} {one.op_str}")
         return None
 
-    def vector(self, state, one, name, get, put, size):
+    def vector(self, one, name, get, put, size):
+        """An instruction of vectors. Those of two vectors change the first, lane by lane."""
         if name in ("movups", "movupd", "movdqu", "movaps", "movapd", "movdqa"):
             put(get(1))
         elif name in ("movq", "movd"):
             put(wide(low(get(1), 64 if name == "movq" else 32), size))
-        elif name in ("xorps", "pxor"):
-            put(get(0) ^ get(1))
-        elif name in ("andps", "pand"):
-            put(get(0) & get(1))
-        elif name in ("orps", "por"):
-            put(get(0) | get(1))
-        elif name == "psrlq" and one.operands[1].type == c.X86_OP_IMM:
-            count = one.operands[1].imm
-            put(z3.Concat(*[z3.LShR(half, count) if count < 64 else bv(0, 64) for half in (bits(get(0), 127, 64), bits(get(0), 63, 0))]))
-        elif name == "punpcklwd":
-            put(z3.Concat(*[bits(get(k), 16 * n + 15, 16 * n) for n in reversed(range(4)) for k in (1, 0)]))
+        elif name in PACKED:
+            meaning, lane = PACKED[name]
+            put(laned(LANED[meaning], lane, get(0), get(1)))
+        elif name[:4] in ("psrl", "psll") and name[4:] in LANES and one.operands[1].type == c.X86_OP_IMM:
+            count, lane = one.operands[1].imm, LANES[name[4:]]
+            by = z3.LShR if name[2] == "r" else lambda term, number: term << number
+            put(laned(lambda a: by(a, count) if count < lane else bv(0, lane), lane, get(0)))
+        elif name.startswith("punpckl"):
+            lane = LANES[name[7]]
+            put(vector([it for pair in zip(*(lanes(low(get(k), 64), lane) for k in (0, 1))) for it in pair]))
+        elif name in ("pshufd", "pshuflw", "pshufhw"):
+            lane, first, last = {"d": (32, 0, 4), "lw": (16, 0, 4), "hw": (16, 4, 8)}[name[5:]]
+            old, order = lanes(get(1), lane), one.operands[2].imm
+            put(vector([old[first + (order >> 2 * (k - first) & 3)] if first <= k < last else it for k, it in enumerate(old)]))
+        elif name == "shufpd":
+            put(vector([lanes(get(k), 64)[one.operands[2].imm >> k & 1] for k in (0, 1)]))
+        elif name == "packuswb":
+            put(vector([z3.If(it < 0, bv(0, 8), z3.If(it > 255, bv(255, 8), low(it, 8))) for k in (0, 1) for it in lanes(get(k), 16)]))
+        elif name == "pmovmskb":
+            put(wide(vector([bits(it, 7, 7) for it in lanes(get(1), 8)]), size))
         else:
             raise Refused(f"instruction {name} {one.op_str}")
 
@@ -268,16 +287,16 @@ class X86(Lifter):
 
     # ---- the ABI
 
-    def call(self, entry, arguments, stacked, size):
-        """Returns the ends of a call, each with its result as one term. The arguments have 64 bits; `stacked` has the bytes of a large
-        struct; size is that of a result in memory, or 0."""
+    def call(self, entry, arguments, function):
+        """Returns the ends of a call of a function of functions.py. The arguments have 64 bits; a large struct is on the stack."""
+        stacked, size = function.struct, function.in_memory
         held = {("SP", k): bits(pointer("RETURN"), 8 * k + 7, 8 * k) for k in range(8)} | {("SP", 8 + k): byte for k, byte in enumerate(stacked)}
-        memory = Memory(self.image, {"SP": (-STACK, 0, 8 + len(stacked)), "OUT": (0, size, size)}, held)
         regs = {name: pointer(f"{name}!entry") for name in FULL} | {f"xmm{n}": unknown(128, "xmm") for n in range(16)}
         given = [pointer("OUT")] * bool(size) + arguments
         regs |= dict(zip(ARGUMENTS, given, strict=False)) | {"rsp": pointer("SP")}
         assert len(given) <= len(ARGUMENTS)
-        ends = self.run(State(regs, {name: unknown(0, name) for name in FLAGS}, memory, entry))
+        regions = {"SP": (-STACK, 0, 8 + len(stacked)), "OUT": (0, size, size)}
+        ends = self.called(entry, regs, {name: unknown(0, name) for name in FLAGS}, regions, held, function)
         if size and not all(z3.simplify(end.regs["rax"]).eq(pointer("OUT")) for end in ends):
             raise Refused("does not return the pointer to its result")
-        return [(end.path, end.memory.load(pointer("OUT"), size) if size else z3.Concat(end.regs["rdx"], end.regs["rax"])) for end in ends]
+        return [(end, z3.Concat(end.regs["rdx"], end.regs["rax"])) for end in ends]
