@@ -109,8 +109,8 @@ def pointer(name):
 
 
 class Memory:
-    """Bytes of regions that do not overlap. A region is a pointer's name, and what may be read and written there: the offsets from the
-    pointer of (the first byte, the end of what may be written, the end of what may be read)."""
+    """Bytes of regions that do not overlap, at pointers that are not null. A region is a pointer's name, and what may be read and written
+    there: the offsets from the pointer of (the first byte, the end of what may be written, the end of what may be read)."""
 
     def __init__(self, lifter, regions, held=()):
         self.lifter, self.regions, self.bytes = lifter, regions, dict(held)
@@ -119,7 +119,6 @@ class Memory:
         return Memory(self.lifter, self.regions, self.bytes)
 
     def place(self, address):
-        # no pointer is null
         address = z3.simplify(z3.substitute(address, *[(pointer(it) == 0, z3.BoolVal(False)) for it in self.regions]))
         if z3.is_bv_value(address):
             return None, address.as_long()
