@@ -96,7 +96,7 @@ pub(crate) const ROUND_BASE_HELP: &str =
     "Also show the bounds granted to N bytes from address B; B is a number below 2^64, like N";
 
 pub(crate) const LIST_HELP: &str =
-    "Read the lengths from FILE, one on each line; `-` is standard input";
+    "Read N from each line of FILE, alone or before a space and its own B; `-` is standard input";
 
 pub(crate) const LENGTH_HELP: &str = "\
 A length in bytes, at most 2^64: decimal digits, or 0x and hexadecimal digits of either case. Put 0x

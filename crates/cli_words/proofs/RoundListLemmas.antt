@@ -1,7 +1,7 @@
 -- The bytes written for a list of lengths, from the contract of the pump.
-use Rattle.std.proofs.Common.{◌≡◌, ℕ, ◌<◌, Bool, true, false, List, [], ◌∷◌, length, take, refl, sym, ◌∙◌, ap, subst, arith, ◌==◌, ◌||◌, length-take, inl, inr, Option, Result}
+use Rattle.std.proofs.Common.{◌≡◌, ℕ, ◌<◌, Bool, true, false, List, [], ◌∷◌, length, take, refl, sym, ◌∙◌, ap, subst, arith, ◌||◌, length-take, inl, inr, Option, Result}
 use Rattle.std.specs.List.{list_any}
-use Rattle.std.proofs.lemmas.Bool.{cases_lt, and_left, ne_eqb}
+use Rattle.std.proofs.lemmas.Bool.{cases_lt, and_left, lt-leb}
 use Rattle.std.proofs.lemmas.List.{take_all}
 use Rattle.cc_io.specs.Answers.{Answer, AnswersAll, EndsWith, seen}
 use Rattle.cc_io.specs.Correct.{Pumps}
@@ -10,7 +10,7 @@ use Rattle.cc_io.specs.Frames.{lines}
 use Rattle.cc_io.specs.declared.summary.IoError.{IoError}
 use Rattle.cc_io.specs.declared.summary.Summary.{Summary}
 use Rattle.cc_io.proofs.ServingLemmas.{Makes, serves_pumped}
-use Rattle.cli_words.specs.BareDigits.{is_bare}
+use Rattle.cli_words.specs.BareDigits.{is_bare_line}
 use Rattle.cli_words.specs.RoundList.{IsLengthAnswer, AreLengthAnswers, AreRoundings, RoundsList}
 use Rattle.cli_words.specs.Rounder.{AnswersLength, RefusesRest}
 use Rattle.cli_words.specs.declared.length_list.Rounder.{Rounder}
@@ -40,18 +40,14 @@ answers_are old new (line ∷ each) (answer ∷ answers) t = (
 answers_are old new [] (answer ∷ answers) t = absurd t
 answers_are old new (line ∷ each) [] t = absurd t
 
--- a long line is not such digits
-not_bare : (line : List ℕ) → 128 < length line → is_bare line ≡ false
-not_bare line long =
-    let eight : (length line == 8) ≡ false = ne_eqb (length line) 8 (λ e. omega (arith, e, long)) in
-    let sixteen : (length line == 16) ≡ false = ne_eqb (length line) 16 (λ e. omega (arith, e, long)) in
-    let neither : (length line == 8 || length line == 16) ≡ false = rw (eight, sixteen) refl in
-    and_left _ _ (and_left _ _ (and_left _ _ neither))
+-- a long line has no such digits
+not_bare : (line : List ℕ) → 128 < length line → is_bare_line line ≡ false
+not_bare line long = and_left _ _ (lt-leb (length line) 128 long)
 
--- the first 129 bytes of a line are such digits if the whole line is
-start_bare : (line : List ℕ) → is_bare (take 129 line) ≡ is_bare line
+-- the first 129 bytes of a line have such digits if the whole line has
+start_bare : (line : List ℕ) → is_bare_line (take 129 line) ≡ is_bare_line line
 start_bare line = elim (cases_lt (length line) 129) [
-  | inl short ↦ ap is_bare (take_all 129 line (omega arith))
+  | inl short ↦ ap is_bare_line (take_all 129 line (omega arith))
   | inr long ↦ not_bare (take 129 line) (omega (arith, length-take 129 line)) ∙ sym (not_bare line (omega (arith, long)))
 ]
 
@@ -65,12 +61,12 @@ or_or false b c = refl
 
 -- what the rounder says of the lines
 bare_seen : (old new : Rounder) (each : List (List ℕ)) (answers : List Answer) → AnswersAll AnswersLength old (seen each) answers new
-    → new.bare ≡ (old.bare || list_any is_bare each)
+    → new.bare ≡ (old.bare || list_any is_bare_line each)
 bare_seen old new [] [] t = ap (λ (r : Rounder). r.bare) t ∙ or_false old.bare
 bare_seen old new (line ∷ each) (answer ∷ answers) t =
     bare_seen t.0 new each answers t.2
-    ∙ ap (λ (b : Bool). b || list_any is_bare each) (t.1.2 ∙ ap (λ (b : Bool). old.bare || b) (start_bare line))
-    ∙ or_or old.bare (is_bare line) (list_any is_bare each)
+    ∙ ap (λ (b : Bool). b || list_any is_bare_line each) (t.1.2 ∙ ap (λ (b : Bool). old.bare || b) (start_bare line))
+    ∙ or_or old.bare (is_bare_line line) (list_any is_bare_line each)
 bare_seen old new [] (answer ∷ answers) t = absurd t
 bare_seen old new (line ∷ each) [] t = absurd t
 
@@ -78,12 +74,12 @@ bare_stays : (old new : Rounder) (rest : List ℕ) (ending : Answer) → EndsWit
 bare_stays old new [] ending e = ap (λ (r : Rounder). r.bare) e.2
 bare_stays old new (byte ∷ rest) ending e = e.2
 
--- the replies of a rounder are those of its base
+-- the replies of a rounder have its base
 makes : (old new : Rounder) → old.bare ≡ false → Makes AnswersLength RefusesRest (AreRoundings old.base new.bare) old new
 makes old new unseen = record {
   are = λ each answers mid rest ending takes ends. (
     answers_are old mid each answers takes,
-    bare_stays mid new rest ending ends ∙ bare_seen old mid each answers takes ∙ ap (λ (b : Bool). b || list_any is_bare each) unseen,
+    bare_stays mid new rest ending ends ∙ bare_seen old mid each answers takes ∙ ap (λ (b : Bool). b || list_any is_bare_line each) unseen,
   );
   refuses = λ mid next rest text is_error refuses. (refuses.0, refuses.1);
 }

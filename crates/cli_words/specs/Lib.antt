@@ -1,5 +1,6 @@
 -- In reading order.
 pub mod Listing
+pub mod ListLine
 pub mod BareDigits
 pub mod Rounding
 pub mod Rounder

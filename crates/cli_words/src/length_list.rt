@@ -4,8 +4,9 @@ ghost use Rattle.cc_io.specs.Devices.{AreReady};
 ghost use Rattle.cli_words.specs.RoundList.{RoundsList};
 ghost use Rattle.cli_words.specs.Rounder.{AnswersLength, RefusesRest};
 
-use crate::bare_digits::is_bare;
-use crate::rounding::push_round;
+use crate::bare_digits::is_bare_line;
+use crate::list_line::read_listed;
+use crate::rounding::push_rounding;
 use cc_io::{Answerer, IoError, Lines, Page, Sink, Source, Summary, pump, refusal_bytes};
 use cc_word::Refusal;
 
@@ -42,12 +43,18 @@ impl Answerer<ROOM> for Rounder {
     }
 
     fn answer(&mut self, line: &[u8], out: &mut Page<ROOM>) -> bool {
-        self.bare = self.bare || is_bare(line);
+        self.bare = self.bare || is_bare_line(line);
         if line.len() > MOST_LINE {
             out.push(refusal_bytes(Refusal::TooLong));
             return true;
         }
-        push_round(self.base, line, out)
+        match read_listed(self.base, line) {
+            Ok((length, base)) => push_rounding(base, length, out),
+            Err(refusal) => {
+                out.push(refusal_bytes(refusal));
+                true
+            }
+        }
     }
 
     fn end(&mut self, _rest: &[u8], out: &mut Page<ROOM>) -> bool {
@@ -61,19 +68,19 @@ impl Answerer<ROOM> for Rounder {
 ///
 /// LENGTH is the number of bytes that bounds of this length take. Their base must be a multiple of
 /// GRANULE. MASK rounds an address down to such a multiple. BASE and TOP are the bounds that a request of
-/// this length from `base` is granted. For any other line, the output is the first of these refusals that
-/// applies:
+/// this length is granted from the base after it in its line, or from `base` if there is none. For any
+/// other line, the output is the first of these refusals that applies:
 ///
 /// - `error 3 long`: the line has more than 128 bytes
-/// - `error 1 syntax`: the line is not a number
-/// - `error 4 range`: the number is above 2^64
-/// - `error 9 bounds`: the request from `base` ends past 2^64
+/// - `error 1 syntax`: the line is not a number, or two with a space between
+/// - `error 4 range`: the length is above 2^64, or its base is at least 2^64
+/// - `error 9 bounds`: the request ends past 2^64
 ///
 /// For bytes after the last line feed, unless there are none, the output is `error 2 unfinished`.
 /// The source is read in chunks of up to 16 KiB. Before each read, the output for all earlier lines
 /// is written. The sink is flushed once, at the end. Allocates nothing.
 ///
-/// At `Ok`, `bare` is whether a line is 8 or 16 decimal digits that begin with 0, as [`is_bare`] says.
+/// At `Ok`, `bare` is whether a number of a line is 8 or 16 decimal digits that begin with 0, as [`is_bare`] says.
 ///
 /// Requires: neither the source nor the sink has failed.
 /// Errors: `Read` if and only if the source failed. The output for all lines before the failure is

@@ -5,6 +5,7 @@ mod bare_digits;
 mod elf_hint;
 mod explaining_bounds;
 mod length_list;
+mod list_line;
 mod listing;
 mod number_hint;
 mod questions;

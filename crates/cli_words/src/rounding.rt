@@ -64,7 +64,7 @@ pub(crate) fn push_round<const N: usize>(base: Option<u64>, text: &[u8], out: &m
 }
 
 /// Appends the reply to a length, and returns whether it is an error.
-fn push_rounding<const N: usize>(base: Option<u64>, size: Len, out: &mut Page<N>) -> bool
+pub(crate) fn push_rounding<const N: usize>(base: Option<u64>, size: Len, out: &mut Page<N>) -> bool
     requires { length out.old + 264 ≤ N }
     ensures { (text : List ℕ) × (out.new ≡ out.old ++ text) × IsRoundingFrom base size text
         × (IsTrue result ↔ IsUnroundable base (Ok size)) }
