@@ -7,7 +7,7 @@ mod laws;
 mod program;
 
 use crate::program::answer_arguments;
-use cli::finish;
+use cli::{Reason, finish};
 use cli_scripts::Terminals;
 use std::io::IsTerminal;
 use std::process::ExitCode;
@@ -17,6 +17,7 @@ fn main(rt: HostRuntime) -> ExitCode {
         input: rt.stdin().is_terminal(),
         errors: rt.stderr().is_terminal(),
     };
-    let ending = answer_arguments(&rt, terminals);
-    ExitCode::from(finish(&rt, ending))
+    let reason = Reason::new(terminals.errors);
+    let ending = answer_arguments(&rt, terminals, &reason);
+    ExitCode::from(finish(&rt, ending, &reason))
 }

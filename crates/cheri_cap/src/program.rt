@@ -16,8 +16,8 @@ use cc_io::{FromWriter, Sink};
 use clap::Error;
 use clap::error::ErrorKind;
 use cli::{
-    Ending, ErrorWriter, Fault, GlobalMemory, Inputs, Invocation, Memory, ProcessInputs, ending_of,
-    no_input, tell,
+    Ending, ErrorWriter, Fault, GlobalMemory, Inputs, Invocation, Memory, Noting, ProcessInputs,
+    Reason, ending_of, no_input, tell,
 };
 use cli_replay::TraceMemory;
 use cli_scripts::{RunMemory, Terminals};
@@ -33,6 +33,7 @@ use std::rt::Files;
 pub fn answer_arguments<R: Env + AllocGlobal + Files + Input + Print + Eprint>(
     rt: &R,
     terminals: Terminals,
+    reason: &Reason,
 ) -> Ending {
     let arguments = match env::args(rt) {
         Ok(arguments) => arguments.collect::<Vec<String>>(rt.alloc()),
@@ -43,7 +44,7 @@ pub fn answer_arguments<R: Env + AllocGlobal + Files + Input + Print + Eprint>(
         }
     };
     match arguments {
-        Ok(arguments) => answer_strings(rt, terminals, arguments.as_slice()),
+        Ok(arguments) => answer_strings(rt, terminals, arguments.as_slice(), reason),
         Err(_) => Ending::Stopped(Fault::Memory),
     }
 }
@@ -54,13 +55,14 @@ fn answer_strings<R: AllocGlobal + Files + Input + Print + Eprint>(
     rt: &R,
     terminals: Terminals,
     arguments: &[String],
+    reason: &Reason,
 ) -> Ending {
     let words: Result<Vec<&str>, AllocError> = arguments
         .iter()
         .map(|argument| argument.as_str())
         .collect(rt.alloc());
     match words {
-        Ok(words) => answer_on_process(rt, terminals, words.as_slice()),
+        Ok(words) => answer_on_process(rt, terminals, words.as_slice(), reason),
         Err(_) => Ending::Stopped(Fault::Memory),
     }
 }
@@ -71,13 +73,19 @@ fn answer_on_process<R: AllocGlobal + Files + Input + Print + Eprint>(
     rt: &R,
     terminals: Terminals,
     words: &[&str],
+    reason: &Reason,
 ) -> Ending
     ensures refused { result ≡ ending.Refused → (app : App) × IsProgram app × (is_taken app (texts words.now) ≡ false) }
     ensures ends { (app : App) × IsProgram app × EndsOn (faults_of app (texts words.now)) result }
 {
-    let mut inputs = ProcessInputs::new(rt, terminals.input && terminals.errors, terminals.errors);
+    let mut inputs = ProcessInputs::new(
+        rt,
+        terminals.input && terminals.errors,
+        terminals.errors,
+        reason,
+    );
     let mut source = no_input();
-    let mut sink = FromWriter::new(output_of(rt, words));
+    let mut sink = FromWriter::new(Noting::new(output_of(rt, words), reason));
     let mut errors = FromWriter::new(ErrorWriter { to: rt });
     let mut memory = GlobalMemory::new(rt.alloc());
     match answer_words(

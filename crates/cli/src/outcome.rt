@@ -4,6 +4,7 @@ ghost use Rattle.clap.specs.Words.{kind_of};
 ghost use Rattle.cli.specs.Outcome.{EndsBy, ending_of, status_of};
 
 use crate::fault::Fault;
+use crate::reason::Reason;
 use cc_io::Summary;
 use clap::Error;
 use clap::error::ErrorKind;
@@ -70,12 +71,16 @@ pub fn tell<R: Print + Eprint>(rt: &R, error: &Error) -> Ending
     }
 }
 
-/// Returns the exit status. If the program stopped before its end, prints the reason on standard error first.
-pub fn finish<R: Eprint>(rt: &R, ending: Ending) -> u8
+/// Returns the exit status. If the program stopped before its end, prints the error on standard error first, and at a
+/// terminal the file and the reason; there it prints nothing if the reader of its output is gone.
+pub fn finish<R: Eprint>(rt: &R, ending: Ending, reason: &Reason) -> u8
     ensures { result ≡ status_of ending }
 {
     if let Ending::Stopped(fault) = ending {
-        let _ = eprintln!(rt; "{fault}");
+        if !reason.is_silent(fault) {
+            let _ = eprintln!(rt; "{fault}");
+            reason.print(rt, fault);
+        }
     }
     ending_status(ending)
 }

@@ -7,12 +7,16 @@ use crate::error_writer::ErrorWriter;
 use crate::fault::Fault;
 use crate::input::{Content, InputName, Inputs};
 use crate::notices::announce;
+use crate::reason::{Noting, Reason};
 use crate::watched::Watched;
 use cc_io::{FromReader, FromWriter, Source};
 use either::{Either, Left, Right};
 use std::fs::{self, OpenFile};
 use std::io::{self, Empty, Read};
 use std::rt::Files;
+
+/// A file, or the standard input of the process.
+type Opened<'a, R> = Either<Watched<'a, R, <R as Files>::File>, <R as Input>::Reader>;
 
 /// The files and the standard input of the process.
 #[derive(Drop)]
@@ -21,12 +25,14 @@ pub struct ProcessInputs<'a, R> {
     is_typed: bool,
     is_watched: bool,
     has_refused: bool,
+    reason: &'a Reason,
 }
 
-impl<'a, R: Files + Input + Eprint> ProcessInputs<'a, R> {
+impl<'a, R: AllocGlobal + Files + Input + Eprint> ProcessInputs<'a, R> {
     /// Creates the inputs of the process. If `is_typed`, a user at the terminal types the standard input, and if
-    /// `is_watched`, standard error shows how much of a file has been read.
-    pub fn new(rt: &'a R, is_typed: bool, is_watched: bool) -> Self
+    /// `is_watched`, standard error shows how much of a file has been read. `reason` keeps the name and the last error
+    /// of the input.
+    pub fn new(rt: &'a R, is_typed: bool, is_watched: bool, reason: &'a Reason) -> Self
         ensures { ⟦<ProcessInputs<'a, R> as Inputs>⟧.has_refused result ≡ false }
     {
         ProcessInputs {
@@ -34,6 +40,7 @@ impl<'a, R: Files + Input + Eprint> ProcessInputs<'a, R> {
             is_typed,
             is_watched,
             has_refused: false,
+            reason,
         }
     }
 }
@@ -45,8 +52,8 @@ pub fn no_input<R: Read>() -> FromReader<Either<R, Empty>>
     FromReader::new(Right(io::empty()))
 }
 
-impl<'a, R: Files + Input + Eprint> Inputs for ProcessInputs<'a, R> {
-    type Opened = FromReader<Either<Either<Watched<'a, R, R::File>, R::Reader>, Empty>>;
+impl<'a, R: AllocGlobal + Files + Input + Eprint> Inputs for ProcessInputs<'a, R> {
+    type Opened = FromReader<Either<Noting<'a, Opened<'a, R>>, Empty>>;
 
     // No contract of std says which bytes a file holds.
     ghost bytes_of = { λ _ _. None };
@@ -60,14 +67,18 @@ impl<'a, R: Files + Input + Eprint> Inputs for ProcessInputs<'a, R> {
         &mut self,
         input: InputName<'_>,
         content: Content,
-        source: &mut FromReader<Either<Either<Watched<'a, R, R::File>, R::Reader>, Empty>>,
+        source: &mut FromReader<Either<Noting<'a, Opened<'a, R>>, Empty>>,
     ) -> Result<(), Fault> {
         let is_typed = self.is_typed && matches!(content, Content::Script);
         let is_watched = self.is_watched && matches!(content, Content::Trace);
-        match open_input(self.rt, is_typed, is_watched, input) {
+        self.reason.set_input(self.rt.alloc(), input);
+        match open_input(self.rt, is_typed, is_watched, input, self.reason) {
             Ok(reader) => {
                 self.has_refused = false;
-                *source = FromReader::with_limit(Left(reader), limit_of(content));
+                *source = FromReader::with_limit(
+                    Left(Noting::new(reader, self.reason)),
+                    limit_of(content),
+                );
                 Ok(())
             }
             Err(fault) => {
@@ -114,7 +125,8 @@ fn open_input<'a, R: Files + Input + Eprint>(
     is_typed: bool,
     is_watched: bool,
     input: InputName<'_>,
-) -> Result<Either<Watched<'a, R, R::File>, R::Reader>, Fault>
+    reason: &Reason,
+) -> Result<Opened<'a, R>, Fault>
     ensures kind { IfOk result (λ reader. IsTrue (is_left reader) ↔ IsFile input.entry) }
     ensures fails { IfErr result (λ fault. (fault ≡ Fault.Open) × IsFile input.entry) }
 {
@@ -124,7 +136,10 @@ fn open_input<'a, R: Files + Input + Eprint>(
                 let length = if is_watched { length_of(&file) } else { 0 };
                 Ok(Left(Watched::new(rt, file, length)))
             }
-            Err(_) => Err(Fault::Open),
+            Err(error) => {
+                reason.set_error(&error);
+                Err(Fault::Open)
+            }
         },
         InputName::Standard => {
             if is_typed {
