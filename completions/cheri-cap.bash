@@ -4,7 +4,7 @@ _cheri_cap() {
   local word=${COMP_WORDS[COMP_CWORD]} before=${COMP_WORDS[COMP_CWORD - 1]} command=${COMP_WORDS[1]} options='-h --help'
   COMPREPLY=()
   if ((COMP_CWORD == 1)); then
-    mapfile -t COMPREPLY < <(compgen -W 'show round run plan map replay decode annotate explain -h --help -V --version' -- "$word")
+    mapfile -t COMPREPLY < <(compgen -W 'show round run plan map replay decode annotate explain help -h --help -V --version' -- "$word")
     return
   fi
   case $command in
@@ -16,6 +16,10 @@ _cheri_cap() {
     show) options+=' --line' ;;
     explain) options+=' --svg --length --base' ;;
     annotate) ;;
+    help)
+      ((COMP_CWORD > 2)) || mapfile -t COMPREPLY < <(compgen -W 'show round run plan map replay decode annotate explain' -- "$word")
+      return
+      ;;
     round) options+=' --base --list' ;;
     *) return ;;
   esac

@@ -18,6 +18,8 @@ complete -c cheri-cap -n __fish_use_subcommand -a replay -d 'Replay the trace of
 complete -c cheri-cap -n __fish_use_subcommand -a decode -d 'Decode one word per line'
 complete -c cheri-cap -n __fish_use_subcommand -a annotate -d 'Copy a text with the line of each word'
 complete -c cheri-cap -n __fish_use_subcommand -a explain -d 'Explain how a capability word is decoded'
+complete -c cheri-cap -n __fish_use_subcommand -a help -d 'Print the help of a command'
+complete -c cheri-cap -n '__fish_seen_subcommand_from help' -a 'show round run plan map replay decode annotate explain'
 complete -c cheri-cap -n '__fish_seen_subcommand_from show' -l line -d 'Show the word on one line'
 complete -c cheri-cap -n '__fish_seen_subcommand_from round' -l base -x -d 'Show the bounds granted from B'
 complete -c cheri-cap -n '__fish_seen_subcommand_from round' -l list -r -F -d 'Read lengths from FILE'

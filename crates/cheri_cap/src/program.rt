@@ -62,8 +62,20 @@ fn answer_strings<R: AllocGlobal + Files + Input + Print + Eprint>(
         .map(|argument| argument.as_str())
         .collect(rt.alloc());
     match words {
-        Ok(words) => answer_on_process(rt, terminals, words.as_slice(), reason),
+        Ok(mut words) => {
+            ask_for_help(&mut words);
+            answer_on_process(rt, terminals, words.as_slice(), reason)
+        }
         Err(_) => Ending::Stopped(Fault::Memory),
+    }
+}
+
+/// Makes `help COMMAND` the arguments `COMMAND --help`, and `help` the argument `--help`.
+fn ask_for_help(words: &mut [&str]) {
+    let count = words.len();
+    if (count == 2 || count == 3) && words[1] == "help" {
+        words[1] = "--help";
+        words.swap(1, count - 1);
     }
 }
 

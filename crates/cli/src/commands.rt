@@ -106,7 +106,7 @@ fn bare_program<'a>(alloc: Global) -> Result<Command<'a>, AllocError>
             .bin_name("cheri-cap")?
             .version(VERSION)
             .about(ABOUT)
-            .after_help(AFTER_HELP)
+            .after_long_help(AFTER_HELP)
             .arg_required_else_help(true)
             .subcommand_required(true)
             .disable_help_subcommand(true),
@@ -125,5 +125,5 @@ fn bare_command<'a>(
 {
     Command::new(alloc, name)
         .about(about)
-        .after_help(after_help)
+        .after_long_help(after_help)
 }

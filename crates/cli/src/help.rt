@@ -13,6 +13,8 @@ A first plan: 100 bytes from a pool of the 65536 bytes from 0x10000
 The last line of its output has the word of the capability for them:
   cheri-cap show ffff0000041880040000000000010000
 
+`cheri-cap help COMMAND` prints the help of a command.
+
 The exit status is 0, or 1 if a reply is an error, 2 for an invalid command line, and 3 if the
 program ran out of memory, a file cannot be opened, or its input or output failed.";
 
