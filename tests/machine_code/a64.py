@@ -211,6 +211,8 @@ class A64(Lifter):
 
         def get(k):
             if views[k] is None:
+                if one.operands[k].type != c.ARM64_OP_REG:
+                    raise Refused(f"an operand of {name} {one.op_str}")
                 return self.read(state, one.reg_name(one.operands[k].reg))
             held = state.regs[f"v{views[k][2]}"]
             return lanes(held, sizes[k])[int(views[k][4] or 0)] if views[k][4] or not views[k][3] else held
@@ -234,7 +236,7 @@ class A64(Lifter):
             put(vector(parts))
         elif name == "fmov" and not views[1]:
             put(get(1))
-        elif any(it and not it[3] for it in views) or first[4]:
+        elif not first or first[4] or any(it and not it[3] for it in views):
             raise Refused(f"instruction {name} {one.op_str}")
         elif name == "movi":
             put(vector([bv(one.operands[1].imm, sizes[0])] * (128 // sizes[0])))
