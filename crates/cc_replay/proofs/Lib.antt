@@ -6,3 +6,4 @@ pub mod HistoryLemmas
 pub mod LineLemmas
 pub mod ScriptLemmas
 pub mod TakingLemmas
+mod GroupLemmas

@@ -1,8 +1,10 @@
 -- The digits of a percentage, rows after others, and pieces after a page.
 use Rattle.std.proofs.Common.{◌≡◌, ℕ, ◌%◌, ◌+◌, List, [], ◌∷◌, ◌++◌, ◌∙◌, ap, append_assoc, arith, refl}
-use Rattle.std.specs.Prelude.{decimal}
+use Rattle.std.specs.Prelude.{codes, decimal}
 use Rattle.cc_io.proofs.DecimalLemmas.{one_digit}
+use Rattle.cc_heap.specs.declared.settings.Settings.{Settings}
 use Rattle.cc_replay.specs.declared.table.Row.{Row as RowValue}
+use Rattle.cc_replay.specs.declared.table.Value.TheVariants.{Sweeping}
 use Rattle.cc_replay.specs.Rows.{Row, rows_of}
 
 pub last_digit : (n : ℕ) → decimal (n % 10) ≡ (48 + n % 10) ∷ []
@@ -22,3 +24,7 @@ headed page heading feed rows = ap (λ (l : List ℕ). l ++ rows) (append_assoc 
 
 pub joined : (page a b c d : List ℕ) → page ++ a ++ b ++ c ++ d ≡ page ++ (a ++ b ++ c ++ d)
 joined page a b c d = ap (λ (l : List ℕ). l ++ d) (headed page a b c) ∙ append_assoc page (a ++ b ++ c) d
+
+-- the row of the policy of settings
+abbrev pub policy_row : Settings → Row
+policy_row settings = record { name = codes "policy"; value = Sweeping settings.policy }

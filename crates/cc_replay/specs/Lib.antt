@@ -6,6 +6,7 @@ pub mod Summary
 pub mod SizeTable
 pub mod Taking
 pub mod Replay
+pub mod Group
 pub mod Changes
 pub mod Operations
 pub mod Script

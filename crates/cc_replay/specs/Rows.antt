@@ -103,3 +103,17 @@ abbrev pub table_text : Format → List Row → List ℕ
 table_text Text rows = items_text Line rows
 table_text Csv rows = names_line rows ++ values_line rows
 table_text Json rows = codes "{" ++ items_text Member rows ++ codes "}\n"
+
+-- ---- Tables of several rows.
+
+-- The values of a row of such a table.
+abbrev pub row_text : Format → List Row → List ℕ
+row_text Text row = with_line_feed (items_text Cell row)
+row_text Csv row = values_line row
+row_text Json row = codes "{" ++ items_text Member row ++ codes "}"
+
+-- The bytes between two rows.
+abbrev pub between_rows : Format → List ℕ
+between_rows Text = []
+between_rows Csv = []
+between_rows Json = codes ",\n"

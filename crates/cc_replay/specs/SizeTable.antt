@@ -4,8 +4,8 @@ use Rattle.cc_io.specs.Text.{with_line_feed}
 use Rattle.cc_heap.specs.declared.sizes.SizeTotals.{SizeTotals}
 use Rattle.cc_replay.specs.declared.table.Format.{Format}
 use Rattle.cc_replay.specs.declared.table.Format.TheVariants.{Text, Csv, Json}
-use Rattle.cc_replay.specs.declared.table.Part.TheVariants.{Cell, Heading, Member}
-use Rattle.cc_replay.specs.Rows.{Row, items_text, names_line, values_line}
+use Rattle.cc_replay.specs.declared.table.Part.TheVariants.{Heading}
+use Rattle.cc_replay.specs.Rows.{Row, between_rows, items_text, names_line, row_text}
 use Rattle.cc_replay.specs.Summary.{number_row}
 
 -- The names and values of a row: the smallest and the largest size of its power of two, and the numbers of
@@ -20,25 +20,13 @@ size_rows power totals =
     ∷ number_row (codes "inexact") totals.inexact
     ∷ []
 
--- The text of a row.
-abbrev pub size_text : Format → List Row → List ℕ
-size_text Text row = with_line_feed (items_text Cell row)
-size_text Csv row = values_line row
-size_text Json row = codes "{" ++ items_text Member row ++ codes "}"
-
--- The bytes between two rows.
-abbrev pub between_sizes : Format → List ℕ
-between_sizes Text = []
-between_sizes Csv = []
-between_sizes Json = codes ",\n"
-
 -- The rows of the powers of two from 2^`power`, each after the bytes before it. A row without an object is
 -- omitted.
 abbrev pub more_sizes : Format → (before : List ℕ) → (power : ℕ) → List SizeTotals → List ℕ
 more_sizes format before power [] = []
 more_sizes format before power (totals ∷ rows) =
     if totals.made == 0 then more_sizes format before (power + 1) rows
-    else (before ++ size_text format (size_rows power totals) ++ more_sizes format (between_sizes format) (power + 1) rows)
+    else (before ++ row_text format (size_rows power totals) ++ more_sizes format (between_rows format) (power + 1) rows)
 
 -- The rows of all powers of two, with a separator between two rows.
 abbrev pub all_sizes : Format → List SizeTotals → List ℕ

@@ -4,6 +4,7 @@ use Rattle.cc_word.specs.declared.refusal.Refusal.{Refusal}
 use Rattle.cc_word.specs.declared.refusal.Refusal.TheVariants.{Unfinished}
 use Rattle.cc_placer.specs.declared.event.Event.{Event}
 use Rattle.cc_formats.specs.declared.formats.Entry.{Entry}
+use Rattle.cc_io.specs.Answers.{Relation}
 use Rattle.cc_formats.specs.declared.formats.TraceFormat.{TraceFormat}
 use Rattle.cc_formats.specs.declared.reading.Progress.{Progress}
 use Rattle.cc_formats.specs.declared.reading.Progress.TheVariants.{Running}
@@ -70,3 +71,7 @@ pub record AppendsEntry {S : Type 0} (taker : Taker S) (old : S) (entry : Entry)
   pub text : List ℕ
   pub out_is : out_now ≡ out ++ text
   pub takes : TakesEntry taker (taker.at_entry entry old) entry.event text is_error new
+
+-- TakesUnwritten holds if a state takes an entry, and its text is not written.
+abbrev pub TakesUnwritten : {S : Type 0} → (Takes : Relation S) → (old : S) → (entry : List ℕ) → (is_error : Bool) → (new : S) → Type 0
+TakesUnwritten {S} Takes old entry is_error new = (text : List ℕ) × Takes old entry text is_error new

@@ -5,6 +5,7 @@
 mod counts;
 mod deeds;
 mod doing;
+mod group;
 mod numbering;
 mod policy_text;
 mod replay;
@@ -21,6 +22,7 @@ pub use cc_heap::{
     Event, Heap, Making, Object, Outcome, Policy, Reallocation, Run, Settings, Share, Totals, Usage,
 };
 pub use counts::{Count, Counts};
+pub use group::{MOST_REPLAYS, ReplayGroup};
 pub use policy_text::{push_policy, read_policy};
 pub use replay::{Replay, replay_trace};
 pub use script::{Script, script_trace};

@@ -11,7 +11,7 @@ ghost use Rattle.cc_heap.specs.Lost.{empty_run};
 ghost use Rattle.cc_heap.specs.Peaks.{without_peaks};
 ghost use Rattle.cc_replay.specs.Replay.{TakesLine, TakesRest, begun, figures_of, last_sample, most_sample};
 ghost use Rattle.cc_replay.specs.Replay.{replaying, series_header, time_after};
-ghost use Rattle.cc_replay.specs.Taking.{AppendsEntry, AppendsEvent, Refuses, next_entry};
+ghost use Rattle.cc_replay.specs.Taking.{AppendsEntry, AppendsEvent, Refuses, TakesUnwritten, next_entry};
 
 use crate::counts::{Count, Counts};
 use crate::series::{MOST_SAMPLE, push_sample, push_series_header};
@@ -187,6 +187,28 @@ impl<P: Placer> Replay<P> {
     {
         let entry = self.read(line);
         self.take_entry(entry, out)
+    }
+
+    /// Takes a line, if further lines are taken, and drops its sample. Returns whether the line is refused.
+    pub(crate) fn take_alone(&mut self, line: &[u8]) -> bool
+        ensures { TakesUnwritten TakesLine self.old line.now result self.new }
+    {
+        if self.progress.is_over() {
+            return false;
+        }
+        let mut unwritten: Page<MOST_SAMPLE> = Page::new();
+        self.take_line(line, &mut unwritten)
+    }
+
+    /// Takes trailing bytes, if further lines are taken. Returns whether they are refused.
+    pub(crate) fn end_alone(&mut self, rest: &[u8]) -> bool
+        ensures { TakesUnwritten TakesRest self.old rest.now result self.new }
+    {
+        if self.progress.is_over() {
+            return false;
+        }
+        let mut unwritten: Page<MOST_SAMPLE> = Page::new();
+        self.take_rest(rest, &mut unwritten)
     }
 
     /// Returns the entry of the next line, in the format of the trace.

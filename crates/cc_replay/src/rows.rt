@@ -1,8 +1,8 @@
 //! Tables of names and values, and their text in each format.
 ghost use Rattle.std.specs.Prelude.{◌≡◌, ◌≤◌, ◌+◌, ◌*◌, ◌%◌, ◌++◌, decimal, length};
-ghost use Rattle.cc_replay.specs.Rows.{item_text, items_text, key_text};
+ghost use Rattle.cc_replay.specs.Rows.{between_rows, item_text, items_text, key_text};
 ghost use Rattle.cc_replay.specs.Rows.{member_text, more_items, names_line, parts_of};
-ghost use Rattle.cc_replay.specs.Rows.{percent_text, reason_text, rows_of};
+ghost use Rattle.cc_replay.specs.Rows.{percent_text, reason_text, row_text, rows_of};
 ghost use Rattle.cc_replay.specs.Rows.{separator_of, table_text, value_text, values_line};
 
 use crate::policy_text::push_policy;
@@ -66,6 +66,37 @@ pub(crate) fn push_values<const N: usize>(page: &mut Page<N>, rows: &[Row])
 {
     push_items(page, Part::Quantity, rows);
     page.push(b"\n");
+}
+
+/// Returns the bytes between two rows of a table of several.
+pub(crate) fn between_rows(format: Format) -> &'static [u8]
+    ensures value { result.now ≡ between_rows format }
+    ensures fits { length result.now ≤ 2 }
+{
+    match format {
+        Format::Text | Format::Csv => b"",
+        Format::Json => b",\n",
+    }
+}
+
+/// Appends the values of a row of a table of several.
+pub(crate) fn push_row<const N: usize>(page: &mut Page<N>, format: Format, row: &[Row])
+    requires { length page.old + 100 * length row.now + 2 ≤ N }
+    ensures value { page.new ≡ page.old ++ row_text format (rows_of row.now) }
+    ensures fits { length page.new ≤ length page.old + 100 * length row.now + 2 }
+{
+    match format {
+        Format::Text => {
+            push_items(page, Part::Cell, row);
+            page.push(b"\n");
+        }
+        Format::Csv => push_values(page, row),
+        Format::Json => {
+            page.push(b"{");
+            push_items(page, Part::Member, row);
+            page.push(b"}");
+        }
+    }
 }
 
 /// Appends a part of a table: its rows, with the separator between.

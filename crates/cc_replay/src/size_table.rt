@@ -2,10 +2,10 @@
 ghost use Rattle.std.specs.Prelude.{◌≡◌, ◌≤◌, ◌<◌, ◌+◌, ◌^◌, ◌++◌, length, false, Err, OnErr};
 ghost use Rattle.cc_io.specs.Devices.{SendsBytes};
 ghost use Rattle.cc_replay.specs.Rows.{rows_of};
-ghost use Rattle.cc_replay.specs.SizeTable.{all_sizes, between_sizes, size_rows, size_text, sizes_text};
+ghost use Rattle.cc_replay.specs.SizeTable.{all_sizes, size_rows, sizes_text};
 
 use crate::row;
-use crate::rows::{push_items, push_names, push_values};
+use crate::rows::{between_rows, push_items, push_names, push_row};
 use crate::table::{Format, Part, Row, Value};
 use cc_heap::{NO_OBJECTS, SizeTotals};
 use cc_io::{IoError, Page, Sink, write_and_flush};
@@ -68,42 +68,11 @@ fn push_rows<const N: usize>(page: &mut Page<N>, format: Format, sizes: &[SizeTo
     'rows: while let Some((totals, after)) = rest.split_first() {
         if totals.made != 0 {
             page.push(before);
-            push_size(page, format, &size_rows(power, totals));
-            before = between_sizes(format);
+            push_row(page, format, &size_rows(power, totals));
+            before = between_rows(format);
         }
         power += 1;
         rest = after;
-    }
-}
-
-/// Returns the bytes between two rows.
-fn between_sizes(format: Format) -> &'static [u8]
-    ensures value { result.now ≡ between_sizes format }
-    ensures fits { length result.now ≤ 2 }
-{
-    match format {
-        Format::Text | Format::Csv => b"",
-        Format::Json => b",\n",
-    }
-}
-
-/// Appends a row.
-fn push_size<const N: usize>(page: &mut Page<N>, format: Format, row: &[Row; 6])
-    requires { length page.old + 602 ≤ N }
-    ensures value { page.new ≡ page.old ++ size_text format (rows_of row.now) }
-    ensures fits { length page.new ≤ length page.old + 602 }
-{
-    match format {
-        Format::Text => {
-            push_items(page, Part::Cell, row);
-            page.push(b"\n");
-        }
-        Format::Csv => push_values(page, row),
-        Format::Json => {
-            page.push(b"{");
-            push_items(page, Part::Member, row);
-            page.push(b"}");
-        }
     }
 }
 

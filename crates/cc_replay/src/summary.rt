@@ -1,24 +1,25 @@
 //! The summary of a replay.
-ghost use Rattle.std.specs.Prelude.{◌≡◌, ◌≤◌, ◌<◌, ◌+◌, ◌-◌, ◌++◌, length, false, true, Err, OnErr};
+ghost use Rattle.std.specs.Prelude.{◌≡◌, ◌≤◌, ◌<◌, ◌+◌, ◌-◌, ◌∷◌, ◌++◌, codes, length, false, true, Err, OnErr};
 ghost use Rattle.arrayvec.specs.ArrayVec.{array_vec_len};
 ghost use Rattle.cc_io.specs.Devices.{SendsBytes};
 ghost use Rattle.cc_replay.specs.Rows.{rows_of, table_text};
 ghost use Rattle.cc_replay.specs.Summary.{end_rows, failure_rows, line_rows, made_rows, peak_rows, refusal_rows};
 ghost use Rattle.cc_replay.specs.Summary.{summary_rows};
+ghost use Rattle.cc_replay.specs.declared.table.Value.TheVariants.{Sweeping};
 
 use crate::counts::Counts;
 use crate::row;
 use crate::rows::{parts_of, push_table};
 use crate::table::{Format, Row, Value};
 use arrayvec::ArrayVec;
-use cc_heap::{Totals, Usage};
+use cc_heap::{Policy, Totals, Usage};
 use cc_io::{IoError, Page, Sink, write_and_flush};
 
 /// The maximum number of bytes of a summary.
 const MOST_SUMMARY: usize = 16384;
 
-/// The number of rows of a summary.
-const MOST_ROWS: usize = 43;
+/// The maximum number of rows of a summary, with that of a policy before them.
+pub(crate) const MOST_ROWS: usize = 44;
 
 /// The numbers of a replay.
 #[derive(Clone, Copy)]
@@ -61,9 +62,26 @@ fn push_summary<const N: usize>(page: &mut Page<N>, figures: &Figures, format: F
     push_table(page, format, rows.as_slice());
 }
 
+/// Returns the row of a policy, and the rows of a summary.
+pub(crate) fn policy_rows(policy: Policy, figures: &Figures) -> ArrayVec<Row, MOST_ROWS>
+    ensures value { rows_of result.items
+        ≡ record { name = codes "policy"; value = Sweeping policy } ∷ summary_rows figures.now }
+    ensures few { array_vec_len result ≤ 44 }
+{
+    let mut rows = ArrayVec::new();
+    let row = Row {
+        name: b"policy",
+        value: Value::Sweeping(policy),
+    };
+    append_rows(&mut rows, &[row]);
+    append_rows(&mut rows, summary_rows(figures).as_slice());
+    rows
+}
+
 /// Returns the rows of a summary.
 fn summary_rows(figures: &Figures) -> ArrayVec<Row, MOST_ROWS>
-    ensures { rows_of result.items ≡ summary_rows figures.now }
+    ensures value { rows_of result.items ≡ summary_rows figures.now }
+    ensures few { array_vec_len result ≤ 43 }
 {
     let mut rows = ArrayVec::new();
     append_rows(&mut rows, &line_rows(&figures.counts));
@@ -80,7 +98,7 @@ fn summary_rows(figures: &Figures) -> ArrayVec<Row, MOST_ROWS>
 /// Appends rows to the rows of a summary.
 #[tactic(auto, using(crate::proofs::RowLemmas::rows_after))]
 fn append_rows(rows: &mut ArrayVec<Row, MOST_ROWS>, more: &[Row])
-    requires { array_vec_len rows.old + length more.now ≤ 43 }
+    requires { array_vec_len rows.old + length more.now ≤ 44 }
     ensures value { rows_of rows.new.items ≡ rows_of rows.old.items ++ rows_of more.now }
     ensures len { array_vec_len rows.new ≡ array_vec_len rows.old + length more.now }
 {

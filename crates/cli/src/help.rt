@@ -226,8 +226,8 @@ object whose padded size and alignment stay right keeps its bytes) [default: mov
 pub(crate) const SWEEP_HELP: &str = "\
 When the quarantine is swept: `none` (there is no quarantine), `never`, `trace` (at each event `s`);
 N%, N%:live or N%:high (if more than N percent of the held bytes, of the live bytes, or of the
-high-water mark are quarantined); bytes:N or frees:N (if at least N bytes or objects are)
-[default: 25%]";
+high-water mark are quarantined); bytes:N or frees:N (if at least N bytes or objects are); up to 8
+policies with commas between print a table with a row for each, from one pass [default: 25%]";
 
 pub(crate) const LEAST_HELP: &str =
     "Number of quarantined bytes below which the policy does not sweep [default: 0]";

@@ -1,5 +1,5 @@
 -- The values of the texts of `replay`, and their refusals.
-use Rattle.std.proofs.Common.{◌≡◌, ◌∙◌, ◌<◌, Bool, List, length, nat_lt, true, false, Option, Some, None, Result, Ok, Err, ap, ap₂, arith, suc, zero, refl, subst, sym}
+use Rattle.std.proofs.Common.{◌≡◌, ◌∙◌, ◌<◌, Bool, List, [], ◌∷◌, length, nat_lt, true, false, Option, Some, None, Result, Ok, Err, ap, ap₂, arith, suc, zero, refl, subst, sym}
 use Rattle.std.specs.Prelude.{ℕ, ◌==◌, ◌^◌, IfOk}
 use Rattle.std.specs.List.{after_first, before_first, position_or_len}
 use Rattle.cc_word.specs.declared.refusal.Refusal.{Refusal}
@@ -17,7 +17,7 @@ use Rattle.cli.specs.declared.invocation.ReplayOutput.{ReplayOutput}
 use Rattle.cli.specs.declared.invocation.ReplayOutput.TheVariants.{Summary, Sizes, Chart, Script, Series}
 use Rattle.cli.specs.declared.invocation.ReplayTexts.{ReplayTexts}
 use Rattle.cc_io.specs.CommandOutput.{changed}
-use Rattle.cli_replay.specs.ReplayTexts.{format_in, least_in, not_zero, output_in, realloc_given, replay_in, span_given, span_in, sweep_given}
+use Rattle.cli_replay.specs.ReplayTexts.{format_in, least_in, not_zero, output_in, realloc_given, first_replay_in, in_summary, others_in, policies_after, span_given, span_in, sweep_given}
 
 -- The two results have both values.
 pub parts_of_both : {A B : Type 0} (first : Result A Refusal) (second : Result B Refusal) (found : A × B) → both first second ≡ Ok found
@@ -76,7 +76,7 @@ output_found sweeping given placing found told =
 pub replay_refused : (align : Align) (strict : Bool) (texts : ReplayTexts) (refusal : Refusal)
     → both (both (sweep_given texts.sweep) (least_in texts.least)) (both (output_in texts.output)
     (both (span_given texts.pool) (both (format_in texts.format) (realloc_given texts.output texts.realloc)))) ≡ Err refusal
-    → Err refusal ≡ replay_in align strict texts
+    → Err refusal ≡ first_replay_in align strict texts
 replay_refused align strict texts refusal told = ap (changed _) (sym told)
 
 -- The values of all texts.
@@ -91,7 +91,7 @@ pub replay_found : (align : Align) (strict : Bool) (texts : ReplayTexts) (policy
         record { limit = 2 ^ 24; pool = pool; align = align; policy = policy; least_quarantine = least; realloc = realloc },
         record { format = format; is_strict = strict; each = each },
       ),
-    ) ≡ replay_in align strict texts
+    ) ≡ first_replay_in align strict texts
 replay_found align strict texts policy least output each pool format realloc told = ap (changed _) (sym told)
 
 -- The span of a text with a colon, and the refusal of one without.
@@ -112,3 +112,10 @@ span_unsplit text none =
 pub not_zero_some : (number : ℕ) → (number ≡ 0 → ⊥) → Ok number ≡ not_zero (Ok number)
 not_zero_some zero some = absurd (some refl)
 not_zero_some (suc less) some = refl
+
+-- ---- the policies after the first
+
+pub others_summed : (first : List ℕ) (names : List (List ℕ)) (output : Option ReplayOutput) → 0 < length names
+    → others_in (first ∷ names) output ≡ in_summary output (policies_after (Ok []) names)
+others_summed first [] output some = absurd (omega (arith, some))
+others_summed first (name ∷ names) output some = refl

@@ -1,5 +1,5 @@
 -- The output of `replay`, from that of its parts.
-use Rattle.std.proofs.Common.{◌≡◌, ◌≢◌, ℕ, Bool, List, Option, Some, None, Result, Ok, Err, MatchResult, refl, subst, sym, inl, inr}
+use Rattle.std.proofs.Common.{◌≡◌, ◌≢◌, ℕ, Bool, true, false, ◌==◌, List, [], ◌∷◌, length, arith, Option, Some, None, Result, Ok, Err, MatchResult, refl, subst, sym, inl, inr}
 use Rattle.std.specs.Borrow.{Bor}
 use Rattle.clap.specs.Words.{Text}
 use Rattle.cc_word.specs.declared.refusal.Refusal.{Refusal}
@@ -13,6 +13,7 @@ use Rattle.cc_heap.specs.Lost.{empty_run}
 use Rattle.cc_replay.specs.Replay.{ReplayState, begun, last_sample}
 use Rattle.cc_formats.specs.declared.reading.Progress.TheVariants.{OutOfMemory}
 use Rattle.cc_formats.specs.declared.reading.Reading.{Reading}
+use Rattle.cc_heap.specs.declared.policy.Policy.{Policy}
 use Rattle.cc_heap.specs.declared.settings.Settings.{Settings}
 use Rattle.cli.specs.declared.invocation.ReplayOutput.{ReplayOutput}
 use Rattle.cli.specs.declared.invocation.ReplayOutput.TheVariants.{Sizes, Chart, Script, Series}
@@ -22,7 +23,11 @@ use Rattle.cli.specs.declared.invocation.SummaryFormat.{SummaryFormat}
 use Rattle.cli.specs.Devices.{Console, FromInput, OnDevices, Traffic}
 use Rattle.cli.specs.Input.{file_input}
 use Rattle.cli_replay.specs.ReplayTexts.{replay_in}
-use Rattle.cli_replay.specs.Replaying.{IsStreaming, IsTable, Replays, ReplaysAll, ReplaysTrace, Samples, SamplesAll, StopsInSummary, StopsSampling, SumsUpAll, WithReplay, WritesReplay}
+use Rattle.cli_replay.specs.Charting.{ChartsTrace}
+use Rattle.cli_replay.specs.Scripting.{ScriptsTrace}
+use Rattle.std.proofs.lemmas.Bool.{eqb-true}
+use Rattle.cli_replay.specs.Replaying.{IsStreaming, IsTable, Replays, ReplaysAll, ReplaysEach, ReplaysTrace, Samples}
+use Rattle.cli_replay.specs.Replaying.{SamplesAll, StopsInSummary, StopsSampling, SumsUpAll, SweepsTrace, WithReplay, WritesReplay}
 use Rattle.cc_io.specs.CommandOutput.{WritesRefusal}
 use Rattle.cli.specs.declared.fault.Fault.{Fault}
 use Rattle.cli.specs.declared.input.InputName.{InputName}
@@ -108,28 +113,61 @@ stops_in_last old new traffic unread left output output_then output_now summary 
 
 -- The replay that the texts ask for, from that of these settings.
 pub with_replay : (align : Align) (strict : Bool) (texts : ReplayTexts) (file : Option (Bor Text)) (console : Console)
-    (found : ReplayOutput × (Settings × Reading)) (input : InputName) (result : Result Summary Fault) → replay_in align strict texts ≡ Ok found → input ≡ file_input file
+    (found : ReplayOutput × (Settings × (Reading × List Policy))) (input : InputName) (result : Result Summary Fault) → replay_in align strict texts ≡ Ok found → input ≡ file_input file
     → OnDevices (FromInput input console (ReplaysTrace found.0 found.1.0 found.1.1)) result
-    → OnDevices (WithReplay align strict texts console (λ output settings reading. FromInput (file_input file) console (ReplaysTrace output settings reading))) result
+    → OnDevices (WithReplay align strict texts console (λ output settings plan. FromInput (file_input file) console (ReplaysTrace output settings plan))) result
 with_replay align strict texts file console found input result is_found is_input holds =
     on_devices-map (FromInput input console (ReplaysTrace found.0 found.1.0 found.1.1))
-    (WithReplay align strict texts console (λ output settings reading. FromInput (file_input file) console (ReplaysTrace output settings reading)))
+    (WithReplay align strict texts console (λ output settings plan. FromInput (file_input file) console (ReplaysTrace output settings plan)))
     (λ io done.
-    subst (λ (given : Result (ReplayOutput × (Settings × Reading)) Refusal). MatchResult given
+    subst (λ (given : Result (ReplayOutput × (Settings × (Reading × List Policy))) Refusal). MatchResult given
     (λ found. FromInput (file_input file) console (ReplaysTrace found.0 found.1.0 found.1.1) io)
     (λ refusal. WritesRefusal console.output console.output_now refusal io)) (sym is_found)
     (subst (λ (name : InputName). FromInput name console (ReplaysTrace found.0 found.1.0 found.1.1) io) is_input done))
     result holds
 
--- What is written for another output than a chart and a script.
-pub as_replay : (output : ReplayOutput) (settings : Settings) (reading : Reading) (input : InputName) (console : Console) (result : Result Summary Fault)
-    → output ≢ Script → output ≢ Chart → OnDevices (FromInput input console (WritesReplay output (begun (empty_run settings) reading))) result
-    → OnDevices (FromInput input console (ReplaysTrace output settings reading)) result
-as_replay (output.Summary format) settings reading input console result unscripted uncharted holds = holds
-as_replay (Sizes format) settings reading input console result unscripted uncharted holds = holds
-as_replay (Series text) settings reading input console result unscripted uncharted holds = holds
-as_replay Script settings reading input console result unscripted uncharted holds = absurd (unscripted refl)
-as_replay Chart settings reading input console result unscripted uncharted holds = absurd (uncharted refl)
+-- What is written for another output than a chart, a script and a summary.
+pub as_replay : (kind : ReplayOutput) (settings : Settings) (others : List Policy) (reading : Reading) (input : InputName) (console : Console) (result : Result Summary Fault)
+    → kind ≢ Script → kind ≢ Chart → ((format : SummaryFormat) → kind ≢ output.Summary format)
+    → OnDevices (FromInput input console (WritesReplay kind (begun (empty_run settings) reading))) result
+    → OnDevices (FromInput input console (ReplaysTrace kind settings (reading, others))) result
+as_replay (output.Summary format) settings others reading input console result unscripted uncharted unsummed holds = absurd (unsummed format refl)
+as_replay (Sizes format) settings others reading input console result unscripted uncharted unsummed holds = holds
+as_replay (Series text) settings others reading input console result unscripted uncharted unsummed holds = holds
+as_replay Script settings others reading input console result unscripted uncharted unsummed holds = absurd (unscripted refl)
+as_replay Chart settings others reading input console result unscripted uncharted unsummed holds = absurd (uncharted refl)
+
+-- The script, whatever other policies there are: there are none.
+pub scripts_trace : (settings : Settings) (others : List Policy) (reading : Reading) (input : InputName) (console : Console) (result : Result Summary Fault)
+    → OnDevices (FromInput input console (ScriptsTrace settings reading)) result
+    → OnDevices (FromInput input console (ReplaysTrace Script settings (reading, others))) result
+scripts_trace settings others reading input console result holds = holds
+
+-- The chart.
+pub charts_trace : (settings : Settings) (others : List Policy) (reading : Reading) (input : InputName) (console : Console) (result : Result Summary Fault)
+    → OnDevices (FromInput input console (ChartsTrace settings reading)) result
+    → OnDevices (FromInput input console (ReplaysTrace Chart settings (reading, others))) result
+charts_trace settings others reading input console result holds = holds
+
+-- The summaries.
+pub summaries_trace : (format : SummaryFormat) (settings : Settings) (others : List Policy) (reading : Reading) (input : InputName) (console : Console) (result : Result Summary Fault)
+    → OnDevices (FromInput input console (ReplaysEach (output.Summary format) settings others reading)) result
+    → OnDevices (FromInput input console (ReplaysTrace (output.Summary format) settings (reading, others))) result
+summaries_trace format settings others reading input console result holds = holds
+
+-- The summary of one heap, if there is no other policy.
+pub alone : (format : SummaryFormat) (settings : Settings) (others : List Policy) (reading : Reading) (input : InputName) (console : Console) (result : Result Summary Fault)
+    → (length others == 0) ≡ true → OnDevices (FromInput input console (WritesReplay (output.Summary format) (begun (empty_run settings) reading))) result
+    → OnDevices (FromInput input console (ReplaysEach (output.Summary format) settings others reading)) result
+alone format settings [] reading input console result none holds = holds
+alone format settings (policy ∷ others) reading input console result none holds = absurd (omega (arith, eqb-true (length (policy ∷ others)) 0 none))
+
+-- The table of the summaries, if there is another policy.
+pub swept : (format : SummaryFormat) (settings : Settings) (others : List Policy) (reading : Reading) (input : InputName) (console : Console) (result : Result Summary Fault)
+    → (length others == 0) ≡ false → OnDevices (FromInput input console (SweepsTrace format settings others reading)) result
+    → OnDevices (FromInput input console (ReplaysEach (output.Summary format) settings others reading)) result
+swept format settings [] reading input console result some holds = cc some
+swept format settings (policy ∷ others) reading input console result some holds = holds
 
 -- The series, for another output than a table.
 pub samples : (kind : ReplayOutput) (old : ReplayState) (traffic : Traffic) (result : Result Summary Fault)

@@ -1,8 +1,8 @@
 -- The heap and the reading that the arguments of `replay` request.
-use Rattle.std.specs.Prelude.{ℕ, Bool, ◌^◌, ◌==◌, nat_lt, codes, length, List, Option, Some, None, Result, Ok, Err, zero, suc, if◌then◌else◌}
+use Rattle.std.specs.Prelude.{ℕ, Bool, ◌^◌, ◌==◌, nat_lt, codes, length, List, ◌++◌, ◌∷◌, [], Option, Some, None, Result, Ok, Err, zero, suc, if◌then◌else◌}
 use Rattle.std.specs.Borrow.{Bor}
 use Rattle.std.specs.Str.{bytes_eq}
-use Rattle.std.specs.List.{after_first, before_first, position_or_len}
+use Rattle.std.specs.List.{after_first, before_first, position_or_len, slice_split}
 use Rattle.clap.specs.Words.{Text}
 use Rattle.cc_word.specs.declared.refusal.Refusal.{Refusal}
 use Rattle.cc_word.specs.declared.refusal.Refusal.TheVariants.{OutOfRange, Syntax}
@@ -21,14 +21,50 @@ use Rattle.cc_heap.specs.declared.reallocation.Reallocation.{Reallocation}
 use Rattle.cc_heap.specs.declared.reallocation.Reallocation.TheVariants.{Move, Keep}
 use Rattle.cc_heap.specs.declared.settings.Settings.{Settings}
 use Rattle.cli.specs.declared.invocation.ReplayOutput.{ReplayOutput}
-use Rattle.cli.specs.declared.invocation.ReplayOutput.TheVariants.{Script, Series}
+use Rattle.cli.specs.declared.invocation.ReplayOutput.TheVariants.{Script, Series, Summary}
 use Rattle.cli.specs.declared.invocation.ReplayTexts.{ReplayTexts}
 use Rattle.cc_io.specs.CommandOutput.{changed}
 
--- The policy that `--sweep` names: 25 percent of the held bytes if the option is not given.
+-- The names of policies: the parts of a text between its commas.
+abbrev pub pieces_of : (text : List ℕ) → List (List ℕ)
+pieces_of text = slice_split (λ byte. byte == 44) text
+
+-- The policy of the first name.
+abbrev pub first_policy : (names : List (List ℕ)) → Result Policy Refusal
+first_policy [] = Err Syntax
+first_policy (name ∷ names) = policy_in name
+
+-- The policy that `--sweep` names first: 25 percent of the held bytes if the option is not given.
 abbrev pub sweep_given : Option (Bor Text) → Result Policy Refusal
 sweep_given None = Ok (Percent 25 Held)
-sweep_given (Some text) = policy_in text.now
+sweep_given (Some text) = first_policy (pieces_of text.now)
+
+-- The policies with one more, of which there are at most seven, or its error.
+abbrev pub one_more : List Policy → Result Policy Refusal → Result (List Policy) Refusal
+one_more policies (Ok policy) = if nat_lt (length policies) 7 then Ok (policies ++ policy ∷ []) else Err OutOfRange
+one_more policies (Err refusal) = Err refusal
+
+-- The policies with those of these names, or the first error.
+abbrev pub policies_after : Result (List Policy) Refusal → (names : List (List ℕ)) → Result (List Policy) Refusal
+policies_after (Err refusal) names = Err refusal
+policies_after (Ok policies) [] = Ok policies
+policies_after (Ok policies) (name ∷ names) = policies_after (one_more policies (policy_in name)) names
+
+-- The policies, which only a summary can have.
+abbrev pub in_summary : Option ReplayOutput → Result (List Policy) Refusal → Result (List Policy) Refusal
+in_summary (Some (Summary format)) found = found
+in_summary _ found = Err Syntax
+
+-- The policies of the names after the first.
+abbrev pub others_in : (names : List (List ℕ)) → Option ReplayOutput → Result (List Policy) Refusal
+others_in [] output = Ok []
+others_in (first ∷ []) output = Ok []
+others_in (first ∷ name ∷ names) output = in_summary output (policies_after (Ok []) (name ∷ names))
+
+-- The policies that `--sweep` names after the first.
+abbrev pub others_given : Option ReplayOutput → Option (Bor Text) → Result (List Policy) Refusal
+others_given output None = Ok []
+others_given output (Some text) = others_in (pieces_of text.now) output
 
 -- The number of quarantined bytes that `--min` gives, or 0.
 abbrev pub least_in : Option (Bor Text) → Result ℕ Refusal
@@ -91,12 +127,12 @@ abbrev pub realloc_given : Option ReplayOutput → Option (Bor Text) → Result 
 realloc_given output None = Ok Move
 realloc_given output (Some text) = in_output output (realloc_named text.now)
 
--- The output, the settings of the heap and how the trace is read, or the first error. `Syntax` comes first: a text is not a
--- number, not a policy, not a pool or not one of the names, or two of `--sizes`, `--svg`, `--script` and `--each`
--- are given, or `--script` with `--realloc keep`. Then comes that a pool ends past 2^64, and then that a number is
--- out of range.
-abbrev pub replay_in : Align → (strict : Bool) → ReplayTexts → Result (ReplayOutput × (Settings × Reading)) Refusal
-replay_in align strict texts =
+-- The output, the settings of the heap with the first policy, and how the trace is read, or the first error. `Syntax` comes
+-- first: a text is not a number, not a policy, not a pool or not one of the names, or two of `--sizes`, `--svg`, `--script`
+-- and `--each` are given, or `--script` with `--realloc keep`. Then comes that a pool ends past 2^64, and then that a number
+-- is out of range.
+abbrev pub first_replay_in : Align → (strict : Bool) → ReplayTexts → Result (ReplayOutput × (Settings × Reading)) Refusal
+first_replay_in align strict texts =
     changed
     (λ found. (
       found.1.0.0,
@@ -106,3 +142,11 @@ replay_in align strict texts =
       ),
     ))
     (both (both (sweep_given texts.sweep) (least_in texts.least)) (both (output_in texts.output) (both (span_given texts.pool) (both (format_in texts.format) (realloc_given texts.output texts.realloc)))))
+
+-- The output, the settings of the first heap, how the trace is read, and the policies of the other heaps, or the first error, as
+-- of one heap. It is `Syntax` too if there are several policies and the output is not the summary, and `OutOfRange` if there are
+-- more than eight.
+abbrev pub replay_in : Align → (strict : Bool) → ReplayTexts → Result (ReplayOutput × (Settings × (Reading × List Policy))) Refusal
+replay_in align strict texts =
+    changed (λ found. (found.0.0, (found.0.1.0, (found.0.1.1, found.1))))
+    (both (first_replay_in align strict texts) (others_given texts.output texts.sweep))

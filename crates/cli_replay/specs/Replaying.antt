@@ -1,5 +1,5 @@
 -- The output of `replay`, by its trace.
-use Rattle.std.specs.Prelude.{◌≡◌, ◌≢◌, ◌⊎◌, ℕ, Bool, ⊤, List, Option, Some, None, Result, Ok, Err, MatchResult}
+use Rattle.std.specs.Prelude.{◌≡◌, ◌≢◌, ◌⊎◌, ℕ, Bool, ⊤, List, ◌∷◌, Option, Some, None, Result, Ok, Err, MatchResult}
 use Rattle.std.specs.Io.KnownBytes.{Appends}
 use Rattle.cc_bounds.specs.declared.align.Align.{Align}
 use Rattle.cc_io.specs.Correct.{Pumps}
@@ -9,6 +9,7 @@ use Rattle.cc_io.specs.declared.summary.IoError.{IoError}
 use Rattle.cc_io.specs.declared.summary.IoError.TheVariants.{Read, Write}
 use Rattle.cc_io.specs.declared.summary.Summary.{Summary}
 use Rattle.cc_heap.specs.Lost.{empty_run}
+use Rattle.cc_replay.specs.Group.{begun_group, policies_text}
 use Rattle.cc_replay.specs.Replay.{ReplayState, TakesLine, TakesRest, begun, figures_of, last_sample, most_sample, series_header}
 use Rattle.cc_replay.specs.Rows.{table_text}
 use Rattle.cc_replay.specs.SizeTable.{sizes_text}
@@ -16,6 +17,7 @@ use Rattle.cc_replay.specs.Summary.{summary_rows}
 use Rattle.cc_formats.specs.declared.reading.Progress.TheVariants.{OutOfMemory}
 use Rattle.cc_formats.specs.declared.reading.Reading.{Reading}
 use Rattle.cc_formats.specs.Reading.{is_over}
+use Rattle.cc_heap.specs.declared.policy.Policy.{Policy}
 use Rattle.cc_heap.specs.declared.settings.Settings.{Settings}
 use Rattle.cc_replay.specs.declared.table.Format.{Format}
 use Rattle.cc_replay.specs.declared.table.Format.TheVariants.{Text, Csv, Json}
@@ -27,6 +29,7 @@ use Rattle.cli.specs.declared.invocation.SummaryFormat.TheVariants as summary
 use Rattle.cli.specs.Devices.{Console, Traffic}
 use Rattle.cli_replay.specs.Charting.{ChartsTrace}
 use Rattle.cli_replay.specs.Scripting.{ScriptsTrace}
+use Rattle.cli_replay.specs.Sweeping.{SumsUpGroup}
 use Rattle.cli_replay.specs.declared.replaying.Table.{Table}
 use Rattle.cli_replay.specs.declared.replaying.Table.TheVariants as table
 use Rattle.cli_replay.specs.ReplayTexts.{replay_in}
@@ -109,11 +112,29 @@ WritesReplay (output.Summary format) old traffic result = SumsUp (replay_table_t
 WritesReplay (output.Sizes format) old traffic result = SumsUp (replay_table_text table.Sizes format) old traffic result
 WritesReplay _ old traffic result = Samples old traffic result
 
--- ReplaysTrace holds if the trace was replayed on a heap of these settings that held nothing, and this output of it was written.
-abbrev pub ReplaysTrace : ReplayOutput → Settings → Reading → Traffic → Result Summary IoError → Type 0
-ReplaysTrace output.Script settings reading traffic result = ScriptsTrace settings reading traffic result
-ReplaysTrace output.Chart settings reading traffic result = ChartsTrace settings reading traffic result
-ReplaysTrace output settings reading traffic result = WritesReplay output (begun (empty_run settings) reading) traffic result
+-- ReplaysAlone holds if the trace was replayed on a heap of these settings that held nothing, and this output of it was written.
+abbrev pub ReplaysAlone : ReplayOutput → Settings → Reading → Traffic → Result Summary IoError → Type 0
+ReplaysAlone output.Script settings reading traffic result = ScriptsTrace settings reading traffic result
+ReplaysAlone output.Chart settings reading traffic result = ChartsTrace settings reading traffic result
+ReplaysAlone output settings reading traffic result = WritesReplay output (begun (empty_run settings) reading) traffic result
+
+-- SweepsTrace holds if the trace was replayed on a heap of these settings and on one with each other policy, which held nothing,
+-- and the table of their summaries was written.
+abbrev pub SweepsTrace : SummaryFormat → Settings → (others : List Policy) → Reading → Traffic → Result Summary IoError → Type 0
+SweepsTrace format settings others reading traffic result =
+    SumsUpGroup (policies_text (table_format format)) (begun_group settings others reading) traffic result
+
+-- ReplaysEach holds if the trace was replayed on one heap, or on several if there are other policies. Only a summary is of several.
+abbrev pub ReplaysEach : ReplayOutput → Settings → (others : List Policy) → Reading → Traffic → Result Summary IoError → Type 0
+ReplaysEach (output.Summary format) settings (policy ∷ policies) reading traffic result =
+    SweepsTrace format settings (policy ∷ policies) reading traffic result
+ReplaysEach output settings others reading traffic result = ReplaysAlone output settings reading traffic result
+
+-- ReplaysTrace holds if the trace was replayed on a heap of these settings, and on one with each other policy, and this output of it
+-- was written.
+abbrev pub ReplaysTrace : ReplayOutput → Settings → (reading_and_others : Reading × List Policy) → Traffic → Result Summary IoError → Type 0
+ReplaysTrace output settings reading_and_others traffic result =
+    ReplaysEach output settings reading_and_others.1 reading_and_others.0 traffic result
 
 -- IsStreaming holds if the output is written while the trace is read: a script or a series.
 abbrev pub IsStreaming : Option ReplayOutput → Type 0
@@ -128,7 +149,7 @@ IsTable (output.Sizes format) = ⊤
 IsTable _ = ⊥
 
 -- WithReplay holds if `Does` holds for the output, the settings and the reading of a replay, or if one of their texts is refused.
-abbrev pub WithReplay : Align → (strict : Bool) → ReplayTexts → Console → (Does : ReplayOutput → Settings → Reading → Result Summary IoError → Type 0)
+abbrev pub WithReplay : Align → (strict : Bool) → ReplayTexts → Console → (Does : ReplayOutput → Settings → Reading × List Policy → Result Summary IoError → Type 0)
     → Result Summary IoError → Type 0
 WithReplay align strict texts console Does result =
     MatchResult (replay_in align strict texts) (λ found. Does found.0 found.1.0 found.1.1 result)

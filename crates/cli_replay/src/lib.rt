@@ -6,6 +6,7 @@ mod memory;
 mod replay_texts;
 mod replaying;
 mod scripting;
+mod sweeping;
 
 pub use charting::Charting;
 pub use memory::TraceMemory;

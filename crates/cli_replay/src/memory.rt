@@ -1,20 +1,25 @@
 //! The memory of a trace that is replayed.
-ghost use Rattle.std.specs.Prelude.{◌≡◌, ◌≢◌, ◌↔◌, Err, IfOk, IsErr, OnErr, OnOk, false, true};
+ghost use Rattle.std.specs.Prelude.{◌≡◌, ◌≢◌, ◌≤◌, ◌↔◌, Err, IfOk, IsErr, OnErr, OnOk, false, length, true};
 ghost use Rattle.cc_formats.specs.declared.reading.Progress.TheVariants.{OutOfMemory};
 ghost use Rattle.cc_formats.specs.Reading.{is_over};
 ghost use Rattle.cc_heap.specs.Lost.{empty_run};
 ghost use Rattle.cc_io.specs.Devices.{IsOutcome};
 ghost use Rattle.cc_replay.specs.Replay.{begun};
+ghost use Rattle.cc_replay.specs.Group.{any_ran_out, are_over, begun_group};
 ghost use Rattle.cc_replay.specs.Script.{script_begun};
 ghost use Rattle.cli_replay.specs.Charting.{TakesLines, begun_chart};
 ghost use Rattle.cli_replay.specs.Replaying.{Replays};
 ghost use Rattle.cli_replay.specs.Scripting.{Writes};
 ghost use Rattle.cli_replay.specs.Settings.{IsForHeap, IsForScript};
+ghost use Rattle.cli_replay.specs.Sweeping.{GroupTakes};
 
 use crate::charting::{Charting, take_trace};
+use crate::sweeping::take_trace_by_group;
 use cc_gaps::GapPlacer;
 use cc_io::{IoError, Sink, Source, Summary};
-use cc_replay::{Progress, Reading, Replay, Script, Settings, replay_trace, script_trace};
+use cc_replay::{
+    Policy, Progress, Reading, Replay, ReplayGroup, Script, Settings, replay_trace, script_trace,
+};
 use cli::{GlobalMemory, Memory};
 use std::alloc::AllocError;
 
@@ -79,6 +84,36 @@ pub trait TraceMemory: Memory {
         ensures read { (result ≡ Err IoError.Read) ↔ ((S.state source.new).has_failed ≡ true) }
         ensures written { result ≢ Err IoError.Write }
         ensures fails { OnOk result ((charting.new.replay.progress ≡ OutOfMemory) ↔ (Self.has_failed self.new ≡ true)) }
+        ensures stopped { OnErr result (Self.has_failed self.new ≡ false) };
+
+    /// Begins a replay with each policy, as [`TraceMemory::begin_replay`] does.
+    ///
+    /// Requires: at most 7 other policies.
+    /// Errors: an allocation fails.
+    fn begin_group(
+        &mut self,
+        settings: Settings,
+        others: &[Policy],
+        reading: Reading,
+    ) -> Result<ReplayGroup<GapPlacer>, AllocError>
+        requires heap { IsForHeap settings }
+        requires few { length others.now ≤ 7 }
+        ensures begins { IfOk result (λ group. group ≡ begun_group settings others.now reading) }
+        ensures fails { IsErr result ↔ (Self.has_failed self.new ≡ true) };
+
+    /// Has each replay take the trace that the source gives.
+    fn take_group<S: Source>(
+        &mut self,
+        group: &mut ReplayGroup<GapPlacer>,
+        source: &mut S,
+    ) -> Result<Summary, IoError>
+        requires source { (S.state source.old).has_failed ≡ false }
+        requires goes_on { are_over group.old ≡ false }
+        ensures takes { GroupTakes group.old (S.state source.old).unread (S.state source.new).unread result
+            group.new }
+        ensures read { (result ≡ Err IoError.Read) ↔ ((S.state source.new).has_failed ≡ true) }
+        ensures written { result ≢ Err IoError.Write }
+        ensures fails { OnOk result ((any_ran_out group.new ≡ true) ↔ (Self.has_failed self.new ≡ true)) }
         ensures stopped { OnErr result (Self.has_failed self.new ≡ false) };
 
     /// Begins the script of a trace, as [`TraceMemory::begin_replay`] does. A machine can follow its heap.
@@ -150,6 +185,27 @@ impl TraceMemory for GlobalMemory {
     ) -> Result<Summary, IoError> {
         let result = take_trace(charting, source);
         self.has_failed = result.is_ok() && matches!(charting.progress(), Progress::OutOfMemory);
+        result
+    }
+
+    fn begin_group(
+        &mut self,
+        settings: Settings,
+        others: &[Policy],
+        reading: Reading,
+    ) -> Result<ReplayGroup<GapPlacer>, AllocError> {
+        let group = ReplayGroup::with_settings(self.alloc, settings, others, reading);
+        self.has_failed = group.is_err();
+        group
+    }
+
+    fn take_group<S: Source>(
+        &mut self,
+        group: &mut ReplayGroup<GapPlacer>,
+        source: &mut S,
+    ) -> Result<Summary, IoError> {
+        let result = take_trace_by_group(group, source);
+        self.has_failed = result.is_ok() && group.is_out_of_memory();
         result
     }
 

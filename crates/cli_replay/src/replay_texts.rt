@@ -1,14 +1,22 @@
 //! The heap and the reading that the arguments of `replay` request.
-ghost use Rattle.std.specs.Prelude.{◌≡◌, ◌^◌, IfOk, Some};
+ghost use Rattle.std.specs.Prelude.{◌≡◌, ◌≤◌, ◌^◌, [], length, Err, IfOk, MatchResult, Ok, Some};
+ghost use Rattle.cc_replay.specs.PolicyText.{policy_in};
 ghost use Rattle.cc_bounds.specs.Span.{IsSpan};
 ghost use Rattle.cli.specs.declared.invocation.ReplayOutput.TheVariants.{Script};
 ghost use Rattle.cc_heap.specs.declared.reallocation.Reallocation.TheVariants.{Move};
 ghost use Rattle.cli_replay.specs.ReplayTexts.{
+  first_policy,
+  first_replay_in,
   format_in,
   trace_format_named,
   in_output,
+  in_summary,
   least_in,
+  one_more,
+  others_given,
   output_in,
+  pieces_of,
+  policies_after,
   realloc_given,
   realloc_named,
   replay_in,
@@ -20,8 +28,13 @@ ghost use Rattle.cli_replay.specs.ReplayTexts.{
 use cc_bounds::{Align, Span};
 use cc_replay::{Policy, Reading, Reallocation, Settings, Share, TraceFormat, read_policy};
 use cc_syntax::{both, read_address, read_request};
+use cc_values::split_at_first;
 use cc_word::Refusal;
 use cli::{ReplayOutput, ReplayTexts};
+use std::marker::Model;
+
+/// The maximum number of policies after the first.
+const MOST_OTHERS: usize = 7;
 
 /// The maximum number of spans that a heap holds.
 const MOST_HELD: u32 = 1 << 24;
@@ -32,18 +45,140 @@ const ALL_ABOVE: Span = Span {
     top: 1 << 64,
 };
 
-/// Returns the output, the settings of the heap, and how the trace is read.
+/// The policies after the first.
+#[derive(Drop)]
+pub(crate) struct Policies {
+    policies: [Policy; MOST_OTHERS],
+    len: usize,
+}
+
+impl Model for Policies {
+    ghost use Rattle.std.specs.Prelude.{List, ◌≤◌, take};
+    ghost use Rattle.cc_heap.specs.declared.policy.Policy.{Policy};
+
+    ghost Value = { List Policy };
+
+    ghost view = { λ p. take p.len p.policies };
+
+    ghost invariant = { λ p. p.len ≤ 7 };
+}
+
+impl Policies {
+    /// Creates no policies.
+    fn new() -> Self
+        ensures { result ≡ [] }
+    {
+        Policies {
+            policies: [Policy::Never; MOST_OTHERS],
+            len: 0,
+        }
+    }
+
+    /// Returns the policies.
+    pub(crate) fn as_slice(&self) -> &[Policy]
+        ensures value { result.now ≡ self.now }
+        ensures few { length result.now ≤ 7 }
+    {
+        &self.policies[..self.len]
+    }
+
+    /// Adds a policy that is read, if there are fewer than seven.
+    fn add(&mut self, text: &[u8]) -> Result<(), Refusal>
+        ensures { MatchResult result (λ _. one_more self.old (policy_in text.now) ≡ Ok self.new)
+            (λ refusal. one_more self.old (policy_in text.now) ≡ Err refusal) }
+    {
+        let policy = read_policy(text)?;
+        if self.len >= MOST_OTHERS {
+            return Err(Refusal::OutOfRange);
+        }
+        self.policies[self.len] = policy;
+        self.len += 1;
+        Ok(())
+    }
+}
+
+/// Returns the output, the settings of the heap with the first policy, how the trace is read, and the other
+/// policies.
+///
+/// Errors, in order: as of one policy; `Syntax` also if there are several and the output is not the summary, and
+/// `OutOfRange` if there are more than eight.
+pub(crate) fn replay_of<'a>(
+    align: Align,
+    strict: bool,
+    texts: ReplayTexts<'a>,
+) -> Result<(ReplayOutput<'a>, (Settings, (Reading, Policies))), Refusal>
+    ensures value { result ≡ replay_in align strict texts.entry }
+    ensures output { IfOk result (λ found. texts.entry.output ≡ Some found.0) }
+    ensures limit { IfOk result (λ found. found.1.0.limit ≡ 2 ^ 24) }
+    ensures pool { IfOk result (λ found. IsSpan found.1.0.pool) }
+    ensures moves { texts.entry.output ≡ Some Script → IfOk result (λ found. found.1.0.realloc ≡ Move) }
+{
+    let others = others_of(texts.output, texts.sweep);
+    match first_replay_of(align, strict, texts) {
+        Ok((output, (settings, reading))) => match others {
+            Ok(others) => Ok((output, (settings, (reading, others)))),
+            Err(refusal) => Err(refusal),
+        },
+        Err(Refusal::Syntax) => Err(Refusal::Syntax),
+        Err(refusal) => match others {
+            Ok(_) => Err(refusal),
+            Err(other) => Err(other),
+        },
+    }
+}
+
+/// Returns the policies that `--sweep` names after the first.
+fn others_of(output: Option<ReplayOutput<'_>>, text: Option<&str>) -> Result<Policies, Refusal>
+    ensures { result ≡ others_given output.entry text.entry }
+{
+    let Some(text) = text else {
+        return Ok(Policies::new());
+    };
+    let Some((_, names)) = split_at_first(text.as_bytes(), b',') else {
+        return Ok(Policies::new());
+    };
+    in_summary(output, read_policies(names))
+}
+
+/// Returns policies, unless the output cannot have them.
+fn in_summary(
+    output: Option<ReplayOutput<'_>>,
+    found: Result<Policies, Refusal>,
+) -> Result<Policies, Refusal>
+    ensures { result ≡ in_summary output.entry found }
+{
+    match output {
+        Some(ReplayOutput::Summary(_)) => found,
+        _ => Err(Refusal::Syntax),
+    }
+}
+
+/// Parses policies with commas between.
+fn read_policies(text: &[u8]) -> Result<Policies, Refusal>
+    ensures { result ≡ policies_after (Ok []) (pieces_of text.now) }
+{
+    let mut policies = Policies::new();
+    let mut rest = text;
+    'names: while let Some((name, after)) = split_at_first(rest, b',') {
+        policies.add(name)?;
+        rest = after;
+    }
+    policies.add(rest)?;
+    Ok(policies)
+}
+
+/// Returns the output, the settings of the heap with the first policy, and how the trace is read.
 ///
 /// Errors, in order: `Syntax` if a text is not a number, not a policy, not a pool or not one of the names,
 /// if two of `--sizes`, `--svg`, `--script` and `--each` are given, or `--script` with `--realloc keep`;
 /// `OutOfBounds` if the pool ends past 2^64; `OutOfRange` if a number is too large, or the number of `--each`
 /// is 0.
-pub(crate) fn replay_of<'a>(
+fn first_replay_of<'a>(
     align: Align,
     strict: bool,
     texts: ReplayTexts<'a>,
 ) -> Result<(ReplayOutput<'a>, (Settings, Reading)), Refusal>
-    ensures value { result ≡ replay_in align strict texts.entry }
+    ensures value { result ≡ first_replay_in align strict texts.entry }
     ensures output { IfOk result (λ found. texts.entry.output ≡ Some found.0) }
     ensures limit { IfOk result (λ found. found.1.0.limit ≡ 2 ^ 24) }
     ensures pool { IfOk result (λ found. IsSpan found.1.0.pool) }
@@ -78,16 +213,26 @@ pub(crate) fn replay_of<'a>(
     }
 }
 
-/// Returns the policy that `--sweep` names, or 25 percent of the held bytes.
+/// Returns the policy that `--sweep` names first, or 25 percent of the held bytes.
 fn policy_of(text: Option<&str>) -> Result<Policy, Refusal>
     ensures { result ≡ sweep_given text.entry }
 {
     match text {
-        Some(text) => read_policy(text.as_bytes()),
+        Some(text) => read_policy(first_name(text.as_bytes())),
         None => Ok(Policy::Percent {
             percent: 25,
             of: Share::Held,
         }),
+    }
+}
+
+/// Returns the bytes before the first comma, or all if there is none.
+fn first_name(text: &[u8]) -> &[u8]
+    ensures { first_policy (pieces_of text.now) ≡ policy_in result.now }
+{
+    match split_at_first(text, b',') {
+        Some((name, _)) => name,
+        None => text,
     }
 }
 

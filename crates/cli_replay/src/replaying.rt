@@ -1,16 +1,19 @@
 //! `replay`: the call for the trace of an allocator.
-ghost use Rattle.std.specs.Prelude.{◌≡◌, ◌≢◌, ◌↔◌, false, true, Err, IsOk, OnErr, OnOk};
+ghost use Rattle.std.specs.Prelude.{◌≡◌, ◌≢◌, ◌≤◌, ◌↔◌, false, length, true, Err, IsOk, OnErr, OnOk};
 ghost use Rattle.cc_io.specs.Devices.{SendsBytes};
 ghost use Rattle.cli.specs.Devices.{FromInput, IsEnd, OnDevices, OnOutput, Traffic};
 ghost use Rattle.cli.specs.Input.{IsFile, file_input, trace_content};
+ghost use Rattle.cli.specs.declared.invocation.ReplayOutput.TheVariants.{Summary as SummaryOutput};
 ghost use Rattle.cli_replay.specs.Charting.{ChartsTrace};
 ghost use Rattle.cli_replay.specs.ReplayTexts.{replay_in};
 ghost use Rattle.cli_replay.specs.Replaying.{
   IsStreaming,
   IsTable,
+  ReplaysEach,
   ReplaysTrace,
   Samples,
   SumsUp,
+  SweepsTrace,
   WithReplay,
   WritesReplay,
   replay_table_text,
@@ -27,11 +30,12 @@ use crate::charting::draw_input;
 use crate::memory::TraceMemory;
 use crate::replay_texts::replay_of;
 use crate::scripting::script_input;
+use crate::sweeping::sweep_input;
 use cc_bounds::Align;
 use cc_gaps::GapPlacer;
 use cc_io::{IoError, Sink, Source, Summary, write_refusal};
 use cc_placer::Placer;
-use cc_replay::{Format, Progress, Reading, Replay, Settings, write_sizes, write_summary};
+use cc_replay::{Format, Policy, Progress, Reading, Replay, Settings, write_sizes, write_summary};
 use cli::{
     Content, Discard, Fault, InputName, Inputs, ReplayOutput, ReplayTexts, SummaryFormat,
     file_input,
@@ -48,7 +52,8 @@ pub(crate) enum Table {
 
 /// Replays the trace that FILE names on a heap with exact bounds, and writes its output: the summary, or in
 /// place of it the table of sizes (`--sizes`), the chart (`--svg`), the script (`--script`) or the series
-/// (`--each`). Two of these together are refused.
+/// (`--each`). Two of these together are refused. With several policies the output is the table of their
+/// summaries, from one reading of the trace.
 ///
 /// The texts are read first. If one is refused, the output is that refusal, and nothing is read.
 ///
@@ -76,8 +81,8 @@ pub fn replay_file<M: TraceMemory, I: Inputs, W: Sink>(
     requires sink { (W.state sink.old).has_failed ≡ false }
     ensures replays { OnOutput (I.bytes_of inputs.old) (I.Opened.state source.new) (W.state sink.old) (W.state sink.new)
         (λ console. WithReplay align strict texts.entry console
-        (λ output settings reading. FromInput (file_input file.entry) console
-        (ReplaysTrace output settings reading))) result }
+        (λ output settings plan. FromInput (file_input file.entry) console
+        (ReplaysTrace output settings plan))) result }
     ensures memory { result ≡ Err Fault.Memory → IsOk (replay_in align strict texts.entry) }
     ensures open { result ≡ Err Fault.Open → IsFile (file_input file.entry) }
     ensures starved { ¬ IsStreaming texts.entry.output → result ≡ Err Fault.Memory
@@ -91,7 +96,7 @@ pub fn replay_file<M: TraceMemory, I: Inputs, W: Sink>(
         result }
 {
     match replay_of(align, strict, texts) {
-        Ok((output, (settings, reading))) => {
+        Ok((output, (settings, (reading, others)))) => {
             let input = file_input(file);
             match output {
                 ReplayOutput::Script => {
@@ -100,6 +105,17 @@ pub fn replay_file<M: TraceMemory, I: Inputs, W: Sink>(
                 ReplayOutput::Chart => {
                     chart(memory, settings, reading, inputs, source, input, sink)
                 }
+                ReplayOutput::Summary(format) => summarize(
+                    memory,
+                    format,
+                    settings,
+                    others.as_slice(),
+                    reading,
+                    inputs,
+                    source,
+                    input,
+                    sink,
+                ),
                 _ => replay(
                     memory, output, settings, reading, inputs, source, input, sink,
                 ),
@@ -178,6 +194,84 @@ fn replay_input<M: TraceMemory, I: Inputs, W: Sink>(
         ReplayOutput::Sizes(format) => sum_up(memory, Table::Sizes, format, replay, source, sink),
         _ => sample(memory, replay, source, sink),
     }
+}
+
+/// Replays a trace on a heap of these settings, and writes the summary, or if there are other policies the table of
+/// the summaries.
+fn summarize<M: TraceMemory, I: Inputs, W: Sink>(
+    memory: &mut M,
+    format: SummaryFormat,
+    settings: Settings,
+    others: &[Policy],
+    reading: Reading,
+    inputs: &mut I,
+    source: &mut I::Opened,
+    input: InputName<'_>,
+    sink: &mut W,
+) -> Result<Summary, Fault>
+    requires few { length others.now ≤ 7 }
+    requires settings { IsForHeap settings }
+    requires memory { M.has_failed memory.old ≡ false }
+    requires source { (I.Opened.state source.old).has_failed ≡ false }
+    requires inputs { I.has_refused inputs.old ≡ false }
+    requires sink { (W.state sink.old).has_failed ≡ false }
+    ensures summarizes { OnOutput (I.bytes_of inputs.old) (I.Opened.state source.new) (W.state sink.old)
+        (W.state sink.new)
+        (λ console. FromInput input.entry console (ReplaysEach (SummaryOutput format) settings others.now reading))
+        result }
+    ensures open { result ≡ Err Fault.Open → IsFile input.entry }
+    ensures starved { result ≡ Err Fault.Memory → (W.state sink.new).taken ≡ (W.state sink.old).taken }
+    ensures asked { I.last_asked inputs.new input.entry Content.Trace ≡ false → (inputs.new ≡ inputs.old)
+        × (source.new ≡ source.old) }
+    ensures allocates { (result ≡ Err Fault.Memory) ↔ (M.has_failed memory.new ≡ true) }
+    ensures end { IsEnd (I.has_refused inputs.new) (I.Opened.state source.new) (W.state sink.old) (W.state sink.new)
+        result }
+{
+    if others.is_empty() {
+        let output = ReplayOutput::Summary(format);
+        return replay(
+            memory, output, settings, reading, inputs, source, input, sink,
+        );
+    }
+    sweep(
+        memory, format, settings, others, reading, inputs, source, input, sink,
+    )
+}
+
+/// Replays a trace on a heap of these settings and on one with each other policy, and writes the table of the
+/// summaries.
+// not inlined, so that other commands do not touch the pages of its buffers on the stack
+#[inline(never)]
+fn sweep<M: TraceMemory, I: Inputs, W: Sink>(
+    memory: &mut M,
+    format: SummaryFormat,
+    settings: Settings,
+    others: &[Policy],
+    reading: Reading,
+    inputs: &mut I,
+    source: &mut I::Opened,
+    input: InputName<'_>,
+    sink: &mut W,
+) -> Result<Summary, Fault>
+    requires few { length others.now ≤ 7 }
+    requires settings { IsForHeap settings }
+    requires memory { M.has_failed memory.old ≡ false }
+    requires source { (I.Opened.state source.old).has_failed ≡ false }
+    requires inputs { I.has_refused inputs.old ≡ false }
+    requires sink { (W.state sink.old).has_failed ≡ false }
+    ensures sweeps { OnOutput (I.bytes_of inputs.old) (I.Opened.state source.new) (W.state sink.old) (W.state sink.new)
+        (λ console. FromInput input.entry console (SweepsTrace format settings others.now reading)) result }
+    ensures open { result ≡ Err Fault.Open → IsFile input.entry }
+    ensures starved { result ≡ Err Fault.Memory → (W.state sink.new).taken ≡ (W.state sink.old).taken }
+    ensures asked { I.last_asked inputs.new input.entry Content.Trace ≡ false → (inputs.new ≡ inputs.old)
+        × (source.new ≡ source.old) }
+    ensures allocates { (result ≡ Err Fault.Memory) ↔ (M.has_failed memory.new ≡ true) }
+    ensures end { IsEnd (I.has_refused inputs.new) (I.Opened.state source.new) (W.state sink.old) (W.state sink.new)
+        result }
+{
+    let mut group = memory.begin_group(settings, others, reading)?;
+    let table = table_format(format);
+    sweep_input(memory, table, &mut group, inputs, source, input, sink)
 }
 
 /// Replays a trace on a heap of these settings, and writes the chart of the heap.

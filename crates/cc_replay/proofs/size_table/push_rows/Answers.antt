@@ -1,8 +1,8 @@
 use Rattle.std.proofs.Common.{ap, arith, length, length-append, rules}
 use Rattle.cc_replay.proofs.size_table.push_rows.Goals as goal
 
-pub push_size-requires : goal.push_size-requires
-push_size-requires g c = (
+pub push_row-requires : goal.push_row-requires
+push_row-requires g c = (
   search rules,
   omega (
     arith,

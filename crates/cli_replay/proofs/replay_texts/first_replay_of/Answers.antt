@@ -2,7 +2,7 @@ use Rattle.std.proofs.Common.{◌≡◌, Err, Ok}
 use Rattle.cc_values.specs.Values.{both}
 use Rattle.cli_replay.specs.ReplayTexts.{format_in, least_in, output_in, realloc_given, span_given, sweep_given}
 use Rattle.cli_replay.proofs.ReplayTextsLemmas.{moves_found, output_found, pool_found, replay_found, replay_refused}
-use Rattle.cli_replay.proofs.replay_texts.replay_of.Goals as goal
+use Rattle.cli_replay.proofs.replay_texts.first_replay_of.Goals as goal
 
 pub returns-in-Err-clause-value : goal.returns-in-Err-clause-value
 returns-in-Err-clause-value c =

@@ -2,10 +2,10 @@ use Rattle.std.proofs.Common.{[], ◌∷◌, ap, arith, length, length-append, r
 use Rattle.cc_replay.specs.declared.table.Part.TheVariants.{Member}
 use Rattle.cc_replay.specs.Rows.{items_text, rows_of}
 use Rattle.cc_replay.proofs.RowLemmas.{bracketed}
-use Rattle.cc_replay.proofs.size_table.push_size.Goals as goal
+use Rattle.cc_replay.proofs.rows.push_row.Goals as goal
 
 pub push-requires : goal.push-requires
-push-requires g c = (search rules, omega (arith, c.push_items.ensures.fits, c.told-row, c.requires))
+push-requires g c = (search rules, omega (arith, c.push_items.ensures.fits, c.requires))
 
 pub push_items-requires-in-Json : goal.push_items-requires-in-Json
 push_items-requires-in-Json g c = (
@@ -14,7 +14,6 @@ push_items-requires-in-Json g c = (
     arith,
     ap length c.push-in-Json.ensures,
     length-append c.args.page.now (123 ∷ []),
-    c.told-row,
     c.requires,
   ),
 )
@@ -27,14 +26,13 @@ push-requires-in-Json-2 g c = (
     ap length c.push-in-Json.ensures,
     length-append c.args.page.now (123 ∷ []),
     c.push_items-in-Json.ensures.fits,
-    c.told-row,
     c.requires,
   ),
 )
 
 pub returns-in-Text-clause-fits : goal.returns-in-Text-clause-fits
 returns-in-Text-clause-fits g c =
-    omega (arith, c.push_items.ensures.fits, ap length c.push.ensures, length-append c.push_items.new.page (10 ∷ []), c.told-row)
+    omega (arith, c.push_items.ensures.fits, ap length c.push.ensures, length-append c.push_items.new.page (10 ∷ []))
 
 pub returns-in-Json-clause-value : goal.returns-in-Json-clause-value
 returns-in-Json-clause-value g c =
@@ -50,5 +48,4 @@ returns-in-Json-clause-fits g c =
       length-append c.args.page.now (123 ∷ []),
       length-append c.push_items-in-Json.new.page (125 ∷ []),
       c.push_items-in-Json.ensures.fits,
-      c.told-row,
     )
