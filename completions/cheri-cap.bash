@@ -12,7 +12,7 @@ _cheri_cap() {
     plan) options+=' --slots --align --stats' ;;
     map) options+=' --slots --align --svg' ;;
     replay) options+=' --format --align --realloc --sweep --min --pool --strict --summary --each --sizes --svg --script' ;;
-    decode) options+=' --format --bytes --skip --at --holds --perms' ;;
+    decode) options+=' --format --bytes --skip --count --at --holds --perms --unsealed' ;;
     show) options+=' --line' ;;
     explain) options+=' --svg --length --base' ;;
     annotate) ;;
@@ -24,7 +24,7 @@ _cheri_cap() {
     *) return ;;
   esac
   case $before in
-    --slots | --length | --base | --skip | --at | --holds | --min | --pool | --each) ;;
+    --slots | --length | --base | --skip | --count | --at | --holds | --min | --pool | --each) ;;
     --sweep)
       compopt -o nospace 2>/dev/null
       mapfile -t COMPREPLY < <(compgen -W 'none never trace 25% 25%:live 25%:high bytes: frees:' -- "$word")

@@ -43,7 +43,9 @@ complete -c cheri-cap -n '__fish_seen_subcommand_from replay' -l script -d 'Prin
 complete -c cheri-cap -n '__fish_seen_subcommand_from decode' -l format -x -a 'columns text fixed csv' -d 'Format of the output'
 complete -c cheri-cap -n '__fish_seen_subcommand_from decode' -l bytes -x -a 'little big' -d 'Read raw words of 16 bytes'
 complete -c cheri-cap -n '__fish_seen_subcommand_from decode' -l skip -x -d 'Number of bytes that are not decoded'
+complete -c cheri-cap -n '__fish_seen_subcommand_from decode' -l count -x -d 'Maximum number of words'
 complete -c cheri-cap -n '__fish_seen_subcommand_from decode' -l at -x -d 'Print addresses from START'
 complete -c cheri-cap -n '__fish_seen_subcommand_from decode' -l holds -x -d 'List capabilities to ADDRESS'
 complete -c cheri-cap -n '__fish_seen_subcommand_from decode' -l perms -x -a '(__cheri_cap_perms)' -d 'List capabilities with permissions'
+complete -c cheri-cap -n '__fish_seen_subcommand_from decode' -l unsealed -d 'List unsealed capabilities'
 complete -c cheri-cap -n '__fish_seen_subcommand_from run plan map replay decode annotate' -F

@@ -50,7 +50,7 @@ pub answers_plainly : Answers plain_options AnswersPlainly
 answers_plainly old entry text is_error new t = (t.0, ap plain_options t.1)
 
 pub answers_entry : Answers (λ (decoder : Decoder). decoder.options) AnswersEntry
-answers_entry old entry text is_error new t = t
+answers_entry old entry text is_error new t = (t.answer, t.options)
 
 module _ {S : Type 0} (options_of : S → Options) (Answered : Relation S) (answers : Answers options_of Answered) where
   -- the options that a decoder has after its replies

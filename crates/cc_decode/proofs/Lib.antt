@@ -1,6 +1,7 @@
 mod DigitLemmas
 mod EntryLemmas
 mod AnswerLemmas
+mod PartLemmas
 mod ListLemmas
 pub mod SkipLemmas
 mod RunLemmas

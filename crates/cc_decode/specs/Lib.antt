@@ -4,6 +4,7 @@ pub mod Row
 pub mod Place
 pub mod Search
 pub mod Output
+pub mod Part
 pub mod Correct
 pub mod Skip
 pub mod Decoder

@@ -1,8 +1,16 @@
 //! The replies to entries, and the refusal of trailing bytes.
-ghost use Rattle.std.specs.Prelude.{◌≡◌, ◌≤◌, ◌+◌, ◌++◌, ℕ, length, true};
+ghost use Rattle.std.specs.Prelude.{◌≡◌, ◌≤◌, ◌+◌, ◌++◌, ℕ, false, length, true};
 ghost use Rattle.cc_io.specs.Text.{refusal_text, with_line_feed};
 ghost use Rattle.cc_word.specs.declared.refusal.Refusal.TheVariants as RefusalSpec;
-ghost use Rattle.cc_decode.specs.Decoder.{AnswersEntry, AnswersPlainly, AppendsReply, AppendsWord, RefusesUnfinished};
+ghost use Rattle.cc_decode.specs.Decoder.{
+  AnswersEntry,
+  AnswersPlainly,
+  AppendsReply,
+  AppendsWord,
+  RefusesRest,
+  RefusesUnfinished,
+};
+ghost use Rattle.cc_decode.specs.Part.{is_over, left_after};
 
 use crate::entries::read_entry;
 use crate::options::Options;
@@ -66,18 +74,25 @@ impl Answerer<ROOM> for PlainDecoder {
 pub(crate) struct Decoder {
     /// The options for the rest of the input.
     pub(crate) options: Options,
+    /// The number of entries that are still decoded, if not all of them are.
+    pub(crate) left: Option<u64>,
 }
 
 impl Answerer<ROOM> for Decoder {
     ghost Answered = { AnswersEntry };
 
-    ghost Ended = { RefusesUnfinished };
+    ghost Ended = { RefusesRest };
 
     ghost MOST = { 512 };
 
+    ghost done = { λ decoder. is_over decoder.left };
+
     #[inline(always)]
     fn is_done(&self) -> bool {
-        false
+        match self.left {
+            Some(left) => left == 0,
+            None => false,
+        }
     }
 
     #[inline(always)]
@@ -89,11 +104,23 @@ impl Answerer<ROOM> for Decoder {
         let word = read_entry(self.options.input, entry);
         let is_error = push_reply(out, &self.options, word);
         self.options.at = next_place(self.options.at);
+        self.left = fewer(self.left);
         is_error
     }
 
     fn end(&mut self, _rest: &[u8], out: &mut Batch) -> bool {
         push_unfinished(out)
+    }
+}
+
+/// Returns the number of entries that are decoded after one more.
+fn fewer(left: Option<u64>) -> Option<u64>
+    requires { is_over left ≡ false }
+    ensures { result ≡ left_after left 1 }
+{
+    match left {
+        Some(left) => Some(left - 1),
+        None => None,
     }
 }
 

@@ -1,5 +1,5 @@
 //! Replies to all entries of the input that a source gives.
-ghost use Rattle.std.specs.Prelude.{◌≡◌, ◌≤◌, [], false, length, IfSome};
+ghost use Rattle.std.specs.Prelude.{◌≡◌, ◌≤◌, [], None, false, length, IfSome, IsSome};
 ghost use Rattle.cc_io.specs.Correct.{Pumps};
 ghost use Rattle.cc_io.specs.Devices.{AreReady, IsOutcome};
 ghost use Rattle.cc_decode.specs.Correct.{Lists};
@@ -9,16 +9,17 @@ ghost use Rattle.cc_decode.specs.Place.{header_of, place_name};
 ghost use Rattle.cc_decode.specs.Row.{header_text};
 
 use crate::decoder::{Decoder, PlainDecoder};
-use crate::options::Options;
+use crate::options::{Options, Part};
 use crate::skipping::skip;
 use crate::writers::{Batch, ROOM};
 use cc_io::{
     Answerer, Blocks, Failed, Format, InputForm, IoError, Lines, Sink, Source, Summary, pump,
+    write_and_flush,
 };
 
-/// Skips the first `skipped` bytes of the input that the source gives, or all if there are fewer, and
-/// writes the header of the format, and then the reply to each entry of the rest. An entry is a line,
-/// or a block of 16 bytes; the first begins after the skipped bytes.
+/// Writes the header of the format, and then the reply to each entry of the part of the input that the
+/// source gives. An entry is a line, or a block of 16 bytes. The first begins after the skipped bytes, or
+/// there is none if the input has fewer. After as many as the part has, the rest is not decoded.
 ///
 /// The reply to a word is its row in the format, with its address in front if the options have the
 /// address of the first entry. In a search, only the words that it finds get a reply. The reply to a
@@ -34,35 +35,49 @@ use cc_io::{
 /// and only if the sink failed. It has then taken a prefix of the header and the replies, and at most
 /// one page of replies is lost (32 KiB).
 pub fn decode_words<R: Source, W: Sink>(
-    skipped: u64,
+    part: Part,
     options: Options,
     source: &mut R,
     sink: &mut W,
 ) -> Result<Summary, IoError>
     requires { AreReady (R.state source.old) (W.state sink.old) }
     // If the source does not say which bytes it has, some input has the listing.
-    ensures { Lists skipped options (R.state source.old) (R.state source.new) (W.state sink.old) (W.state sink.new)
+    ensures { Lists part options (R.state source.old) (R.state source.new) (W.state sink.old) (W.state sink.new)
         result }
 {
-    match skip(skipped, source) {
+    match skip(part.skipped, source) {
         Ok(()) => {}
         Err(Failed) => return Err(IoError::Read),
     }
     let mut page = Batch::new();
     push_header(&mut page, &options);
-    match plain_decoder(options) {
+    if part.count == Some(0) {
+        return match write_and_flush(&page, sink) {
+            Ok(()) => Ok(Summary { any_error: false }),
+            Err(error) => Err(error),
+        };
+    }
+    match plain_decoder(part.count, options) {
         Some(mut decoder) => list_entries(options.input, &mut decoder, source, sink, &mut page),
         None => {
-            let mut decoder = Decoder { options };
+            let mut decoder = Decoder {
+                options,
+                left: part.count,
+            };
             list_entries(options.input, &mut decoder, source, sink, &mut page)
         }
     }
 }
 
-/// Returns the decoder of all words without addresses, if that is what the options request.
-fn plain_decoder(options: Options) -> Option<PlainDecoder>
-    ensures { IfSome result (λ decoder. plain_options decoder ≡ options) }
+/// Returns the decoder of all words without addresses, if that is what the options request and all
+/// entries are decoded.
+fn plain_decoder(count: Option<u64>, options: Options) -> Option<PlainDecoder>
+    ensures options { IfSome result (λ decoder. plain_options decoder ≡ options) }
+    ensures all { IsSome result → count ≡ None }
 {
+    if count.is_some() {
+        return None;
+    }
     match options {
         Options {
             input,

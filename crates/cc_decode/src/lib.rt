@@ -18,4 +18,4 @@ mod writers;
 pub use annotating::annotate;
 pub use cc_io::{ByteOrder, Format, InputForm};
 pub use decoding::decode_words;
-pub use options::{Options, Search};
+pub use options::{Options, Part, Search};

@@ -2,6 +2,15 @@
 use cc_io::{Format, InputForm};
 use cc_word::Perms;
 
+/// The part of an input that is decoded.
+#[derive(Clone, Copy)]
+pub struct Part {
+    /// The number of bytes before the first entry.
+    pub skipped: u64,
+    /// The maximum number of entries; all of the rest is decoded if there is none.
+    pub count: Option<u64>,
+}
+
 /// The form of the input, the format of the replies, and the words that get a reply.
 #[derive(Clone, Copy)]
 pub struct Options {
@@ -16,11 +25,14 @@ pub struct Options {
     pub search: Option<Search>,
 }
 
-/// A search for words that could be capabilities: they are canonical and have a permission.
+/// A search for words that could be capabilities: they are canonical, or a sentry that is canonical
+/// once it is unsealed, and have a permission.
 #[derive(Clone, Copy)]
 pub struct Search {
     /// The address of a byte that the bounds contain, if one is searched for.
     pub holds: Option<u64>,
     /// The permissions that the words have at least.
     pub perms: Perms,
+    /// Whether only unsealed words are found: neither sealed ones nor sentries.
+    pub unsealed: bool,
 }

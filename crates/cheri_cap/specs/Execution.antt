@@ -19,7 +19,7 @@ use Rattle.cli.specs.Devices.{Console, FromInput, Traffic}
 use Rattle.cli.specs.Input.{file_input, trace_content}
 use Rattle.cli_replay.specs.ReplayTexts.{replay_in}
 use Rattle.cli_replay.specs.Replaying.{IsStreaming, ReplaysTrace}
-use Rattle.cli_words.specs.Listing.{options_of, skipped_of}
+use Rattle.cli_words.specs.Listing.{options_of, part_of}
 use Rattle.cli_words.specs.Questions.{has_hint}
 use Rattle.cli_words.specs.Tasks.{AnnotatesWords, AnswersQuestion, ListsWords, RoundsLengths}
 use Rattle.cli_scripts.specs.Report.{report_of}
@@ -108,7 +108,7 @@ effect_of terminals (Replay align strict texts file) =
     (λ found. reads (file_input file) (trace_content texts.output) (ReplaysTrace found.0 found.1.0 found.1.1)
     (λ console. ¬ IsStreaming texts.output → WritesNothing console) ⊥)
 effect_of terminals (Decode input format values file) =
-    reads (file_input file) content.Words (ListsWords (skipped_of values) (options_of input format values)) (λ console. ⊥) (IsTrue terminals.errors)
+    reads (file_input file) content.Words (ListsWords (part_of values) (options_of input format values)) (λ console. ⊥) (IsTrue terminals.errors)
 effect_of terminals (Annotate file) = reads (file_input file) content.Words AnnotatesWords (λ console. ⊥) ⊥
 effect_of terminals (RoundList base file) =
     reads (file_input (Some file)) content.Words (RoundsLengths base terminals.errors) (λ console. ⊥) (IsTrue terminals.errors)

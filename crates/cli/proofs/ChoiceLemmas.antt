@@ -44,13 +44,14 @@ size_wanted (Some text) true e = ((text, refl), refl)
 -- ---- the values of `decode`
 
 -- Values that have no error are all read.
-pub all_read : (skip at holds perms : Bool) → value_fault (skip && (at && (holds && perms))) ≡ None
-    → (skip ≡ true) × (at ≡ true) × (holds ≡ true) × (perms ≡ true)
-all_read true true true true e = (refl, refl, refl, refl)
-all_read true true true false e = cc e
-all_read true true false perms e = cc e
-all_read true false holds perms e = cc e
-all_read false at holds perms e = cc e
+pub all_read : (skip count at holds perms : Bool) → value_fault (skip && (count && (at && (holds && perms)))) ≡ None
+    → (skip ≡ true) × (count ≡ true) × (at ≡ true) × (holds ≡ true) × (perms ≡ true)
+all_read true true true true true e = (refl, refl, refl, refl, refl)
+all_read true true true true false e = cc e
+all_read true true true false perms e = cc e
+all_read true true false holds perms e = cc e
+all_read true false at holds perms e = cc e
+all_read false count at holds perms e = cc e
 
 -- A text is given if and only if it has a value.
 pub is_some-now : (found : Option (Bor Text)) → is_some found ≡ is_some (option_map (λ text. text.now) found)

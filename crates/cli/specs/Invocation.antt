@@ -124,12 +124,14 @@ HasWordAlone rows word =
     (first_of (codes "word") rows ≡ Some word) × (first_of (codes "length") rows ≡ None) × (first_of (codes "base") rows ≡ None)
 
 -- `HasDecodeValues` holds if the numbers and the permissions are those that the values of these options are, or `None` for those that
--- are not given.
+-- are not given, and `unsealed` says whether `--unsealed` is given.
 pub record HasDecodeValues (rows : List Row) (values : DecodeValues) : Type 0 where
   pub skip : IsRead address_in (first_of (codes "skip") rows) values.skip
+  pub count : IsRead address_in (first_of (codes "count") rows) values.count
   pub at : IsRead address_in (first_of (codes "at") rows) values.at
   pub holds : IsRead address_in (first_of (codes "holds") rows) values.holds
   pub perms : IsRead permissions_in (first_of (codes "perms") rows) values.perms
+  pub unsealed : values.unsealed ≡ is_on (first_of (codes "unsealed") rows)
 
 -- The output of `replay` by the format of tables and the options that are given: the summary without one. `None` if two are given.
 abbrev pub replay_output : SummaryFormat → (sizes svg script : Bool) → (each : Option (Bor Text)) → Option ReplayOutput
@@ -242,8 +244,9 @@ list_fault_of rows =
 -- The kind of error of the values of `decode` in these rows, if there is one.
 abbrev pub search_fault_of : List Row → Option ErrorKind
 search_fault_of rows = value_fault
-    (is_read address_in (first_of (codes "skip") rows) && (is_read address_in (first_of (codes "at") rows)
-    && (is_read address_in (first_of (codes "holds") rows) && is_read permissions_in (first_of (codes "perms") rows))))
+    (is_read address_in (first_of (codes "skip") rows) && (is_read address_in (first_of (codes "count") rows)
+    && (is_read address_in (first_of (codes "at") rows)
+    && (is_read address_in (first_of (codes "holds") rows) && is_read permissions_in (first_of (codes "perms") rows)))))
 
 -- The kind of error of these values of the command of this name, if there is one: only `explain`, `round` and `decode` have one.
 abbrev pub named_fault : (name : Text) → List Row → Option ErrorKind

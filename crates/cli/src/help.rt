@@ -326,12 +326,17 @@ Read raw words of 16 bytes, the lowest byte first or the highest
 pub(crate) const SKIP_HELP: &str =
     "Number of bytes at the start of the input that are not decoded [default: 0]";
 
+pub(crate) const COUNT_HELP: &str =
+    "Maximum number of words, or of lines, that are decoded [default: all]";
+
 pub(crate) const AT_HELP: &str = "Print the address of each word; the first is at START";
 
 pub(crate) const HOLDS_HELP: &str = "List only words that could be capabilities to ADDRESS";
 
 pub(crate) const PERMISSIONS_HELP: &str =
     "List only words that could be capabilities with these permissions, joined by `+`";
+
+pub(crate) const UNSEALED_HELP: &str = "List only words that could be unsealed capabilities";
 
 pub(crate) const WORDS_FILE_HELP: &str = "File of words; standard input if `-` or omitted";
 
@@ -354,9 +359,12 @@ the skipped bytes, and 16 more for each further word. In a core file, a segment 
 offset that is not a multiple of 16: `readelf -lW` prints the Offset of each, for --skip, and its
 VirtAddr, for --at.
 
-With --holds or --perms, lists only words that could be capabilities: they are canonical, their bounds
-contain ADDRESS, and they have at least one permission, and all of NAMES. Null has no permission, so
-it is never listed. For a line that is not a word, prints nothing, but the exit status is 1.
+With --holds, --perms or --unsealed, lists only words that could be capabilities, since raw memory has
+no tags: they are canonical, as 22 in 100 random words are, or a sentry that is once it is unsealed;
+their bounds contain ADDRESS; and they have at least one permission, and all of NAMES. Null has no
+permission, so it is never listed. TYPE is 3ffff for an unsealed word, 3fffe for a sentry, and another
+for a sealed one; --unsealed omits sentries and sealed words. For a line that is not a word, prints
+nothing, but the exit status is 1.
 
 The exit status is 0, or 1 if a line of output is an error, 2 for an invalid command line, and 3 if
 FILE cannot be opened, or the input or output failed.

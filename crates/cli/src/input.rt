@@ -1,11 +1,12 @@
 //! The inputs that commands read.
-ghost use Rattle.std.specs.Prelude.{◌≡◌, ◌↔◌, ℕ, Bool, List, Option, Some, IfErr, IfSome, IsErr, OnOk, false, true};
+ghost use Rattle.std.specs.Prelude.{◌≡◌, ◌↔◌, ◌≤◌, ℕ, Bool, List, Option, Some, IfErr, IfOk, IfSome, IsErr, OnOk, drop};
+ghost use Rattle.std.specs.Prelude.{false, true};
 ghost use Rattle.cli.specs.declared.input.Content.{Content as ContentSpec};
 ghost use Rattle.cli.specs.declared.input.InputName.{InputName as InputNameSpec};
 ghost use Rattle.cli.specs.Input.{IsFile, file_input};
 
 use crate::fault::Fault;
-use cc_io::Source;
+use cc_io::{Page, Source};
 
 /// The name of an input.
 #[derive(Clone, Copy)]
@@ -62,8 +63,27 @@ pub trait Inputs {
         ensures refused { IsErr result ↔ (has_refused self.new ≡ true) }
         ensures unfailed { (Self.Opened.state source.new).has_failed ≡ false };
 
-    /// Returns the first four bytes of the regular file of this name, or `None` if they cannot be read.
-    fn start_of(&self, path: &str) -> Option<[u8; 4]>;
+    /// Makes a source read an input from one of its first bytes on, and returns the number of the bytes before that,
+    /// at most `most`. They are not read. Otherwise like [`Inputs::open`].
+    ///
+    /// Errors: `Open` if a file cannot be opened.
+    fn open_after(
+        &mut self,
+        input: InputName<'_>,
+        content: Content,
+        most: u64,
+        source: &mut Self::Opened,
+    ) -> Result<u64, Fault>
+        ensures opened { IfOk result (λ passed. IfSome (bytes_of self.old input.entry)
+            (λ bytes. (Self.Opened.state source.new).unread ≡ Some (drop passed bytes))) }
+        ensures within { IfOk result (λ passed. passed ≤ most) }
+        ensures fails { IfErr result (λ fault. (fault ≡ Fault.Open) × IsFile input.entry) }
+        ensures asked { last_asked self.new input.entry content ≡ true }
+        ensures refused { IsErr result ↔ (has_refused self.new ≡ true) }
+        ensures unfailed { (Self.Opened.state source.new).has_failed ≡ false };
+
+    /// Returns the first bytes of the regular file of this name, at most 36, or `None` if they cannot be read.
+    fn start_of(&self, path: &str) -> Option<Page<36>>;
 }
 
 /// Returns the input that FILE names: standard input for `-`, and if FILE is not given.

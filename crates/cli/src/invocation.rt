@@ -13,17 +13,21 @@ pub struct PoolTexts<'a> {
     pub length: &'a str,
 }
 
-/// The values of the options of `decode` that are numbers or names.
+/// The values of the options of `decode` that are numbers or names, and whether `--unsealed` is given.
 #[derive(Clone, Copy)]
 pub struct DecodeValues {
     /// The number of bytes to skip.
     pub skip: Option<u64>,
+    /// The maximum number of words to decode.
+    pub count: Option<u64>,
     /// The address of the first word.
     pub at: Option<u64>,
     /// The address that bounds contain.
     pub holds: Option<u64>,
     /// The permissions that a word has.
     pub perms: Option<Perms>,
+    /// Whether only unsealed words are listed.
+    pub unsealed: bool,
 }
 
 /// The format of the summary of `replay`.
@@ -123,8 +127,8 @@ pub enum Invocation<'a> {
         /// The trace's file; `None` and `-` are standard input.
         file: Option<&'a str>,
     },
-    /// `decode [--format FORMAT] [--bytes ORDER] [--skip N] [--at START] [--holds ADDRESS] [--perms NAMES] [FILE]`:
-    /// lists the content of each word of a text, or of raw bytes, or of those that a search finds.
+    /// `decode [--format FORMAT] [--bytes ORDER] [--skip N] [--count N] [--at START] [--holds ADDRESS] [--perms NAMES]
+    /// [--unsealed] [FILE]`: lists the content of each word of a text or of raw bytes, or of those that a search finds.
     Decode {
         /// The form of the words in the input.
         input: InputForm,

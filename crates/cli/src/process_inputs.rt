@@ -1,5 +1,5 @@
 //! The files and the standard input of the process, as inputs of commands.
-ghost use Rattle.std.specs.Prelude.{◌≡◌, None, IfErr, IfOk, IsTrue, false, true, ◌↔◌};
+ghost use Rattle.std.specs.Prelude.{◌≡◌, ◌≤◌, None, IfErr, IfOk, IsTrue, false, true, ◌↔◌};
 ghost use Rattle.either.specs.Either.{is_left};
 ghost use Rattle.cli.specs.Input.{IsFile};
 
@@ -9,11 +9,14 @@ use crate::input::{Content, InputName, Inputs};
 use crate::notices::announce;
 use crate::reason::{Noting, Reason};
 use crate::watched::Watched;
-use cc_io::{FromReader, FromWriter, Source};
+use cc_io::{FromReader, FromWriter, Page, Source};
 use either::{Either, Left, Right};
 use std::fs::{self, OpenFile};
-use std::io::{self, Empty, Read};
+use std::io::{self, Empty, Read, Seek, SeekFrom};
 use std::rt::Files;
+
+/// The maximum number of bytes of the start of a file.
+const START: usize = 36;
 
 /// A file, or the standard input of the process.
 type Opened<'a, R> = Either<Watched<'a, R, <R as Files>::File>, <R as Input>::Reader>;
@@ -69,17 +72,30 @@ impl<'a, R: AllocGlobal + Files + Input + Eprint> Inputs for ProcessInputs<'a, R
         content: Content,
         source: &mut FromReader<Either<Noting<'a, Opened<'a, R>>, Empty>>,
     ) -> Result<(), Fault> {
+        match self.open_after(input, content, 0, source) {
+            Ok(_) => Ok(()),
+            Err(fault) => Err(fault),
+        }
+    }
+
+    fn open_after(
+        &mut self,
+        input: InputName<'_>,
+        content: Content,
+        most: u64,
+        source: &mut FromReader<Either<Noting<'a, Opened<'a, R>>, Empty>>,
+    ) -> Result<u64, Fault> {
         let is_typed = self.is_typed && matches!(content, Content::Script);
         let is_watched = self.is_watched && matches!(content, Content::Trace);
         self.reason.set_input(self.rt.alloc(), input);
-        match open_input(self.rt, is_typed, is_watched, input, self.reason) {
-            Ok(reader) => {
+        match open_input(self.rt, is_typed, is_watched, input, most, self.reason) {
+            Ok((reader, passed)) => {
                 self.has_refused = false;
                 *source = FromReader::with_limit(
                     Left(Noting::new(reader, self.reason)),
                     limit_of(content),
                 );
-                Ok(())
+                Ok(passed)
             }
             Err(fault) => {
                 self.has_refused = true;
@@ -90,7 +106,7 @@ impl<'a, R: AllocGlobal + Files + Input + Eprint> Inputs for ProcessInputs<'a, R
     }
 
     // Other files are not opened: a pipe has been read to its end, and waits for another writer.
-    fn start_of(&self, path: &str) -> Option<[u8; 4]> {
+    fn start_of(&self, path: &str) -> Option<Page<START>> {
         match fs::metadata(self.rt, path) {
             Ok(metadata) if metadata.is_file() => {}
             _ => return None,
@@ -98,9 +114,13 @@ impl<'a, R: AllocGlobal + Files + Input + Eprint> Inputs for ProcessInputs<'a, R
         let Ok(mut file) = fs::open(self.rt, path) else {
             return None;
         };
-        let mut start = [0; 4];
-        match file.read_exact(&mut start) {
-            Ok(()) => Some(start),
+        let mut start = [0; START];
+        match file.read(&mut start) {
+            Ok(count) => {
+                let mut page = Page::new();
+                page.push(&start[..count]);
+                Some(page)
+            }
             Err(_) => None,
         }
     }
@@ -115,26 +135,30 @@ fn limit_of(content: Content) -> usize {
     }
 }
 
-/// Opens an input of the process: a file of this name, or standard input.
+/// Opens an input of the process: a file of this name, or standard input. Returns the number of its first bytes that
+/// are not read, at most `most`: all of them in a regular file, and none in any other input.
 ///
 /// Errors: `Open` if a file cannot be opened.
 ///
-/// That the file is the one of this name is tested, and not proved.
+/// That the file is the one of this name, and is read from there on, is tested, and not proved.
 fn open_input<'a, R: Files + Input + Eprint>(
     rt: &'a R,
     is_typed: bool,
     is_watched: bool,
     input: InputName<'_>,
+    most: u64,
     reason: &Reason,
-) -> Result<Opened<'a, R>, Fault>
-    ensures kind { IfOk result (λ reader. IsTrue (is_left reader) ↔ IsFile input.entry) }
+) -> Result<(Opened<'a, R>, u64), Fault>
+    ensures kind { IfOk result (λ opened. IsTrue (is_left opened.0) ↔ IsFile input.entry) }
+    ensures within { IfOk result (λ opened. opened.1 ≤ most) }
     ensures fails { IfErr result (λ fault. (fault ≡ Fault.Open) × IsFile input.entry) }
 {
     match input {
         InputName::File(path) => match fs::open(rt, path) {
-            Ok(file) => {
+            Ok(mut file) => {
+                let passed = pass(&mut file, most);
                 let length = if is_watched { length_of(&file) } else { 0 };
-                Ok(Left(Watched::new(rt, file, length)))
+                Ok((Left(Watched::new(rt, file, length)), passed))
             }
             Err(error) => {
                 reason.set_error(&error);
@@ -145,8 +169,26 @@ fn open_input<'a, R: Files + Input + Eprint>(
             if is_typed {
                 announce(&mut FromWriter::new(ErrorWriter { to: rt }));
             }
-            Ok(Right(rt.reader()))
+            Ok((Right(rt.reader()), 0))
         }
+    }
+}
+
+/// Moves to the byte after the first `most` of a regular file, and returns their number, or 0 if the file stays at its
+/// first byte.
+fn pass<F: OpenFile + Seek>(file: &mut F, most: u64) -> u64
+    ensures { result ≤ most }
+{
+    if most == 0 {
+        return 0;
+    }
+    match file.metadata() {
+        Ok(metadata) if metadata.is_file() => {}
+        _ => return 0,
+    }
+    match file.seek(SeekFrom::Start(most)) {
+        Ok(_) => most,
+        Err(_) => 0,
     }
 }
 

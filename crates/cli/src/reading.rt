@@ -122,6 +122,7 @@ fn search_fault(decode: &ArgMatches<'_>) -> Option<ErrorKind>
 {
     value_fault(
         is_address(decode, "skip")
+            && is_address(decode, "count")
             && is_address(decode, "at")
             && is_address(decode, "holds")
             && are_permissions(decode, "perms"),

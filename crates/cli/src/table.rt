@@ -5,13 +5,14 @@ ghost use Rattle.cli.specs.Usage.{bare_program, explain_command, listed_commands
 
 use crate::help::{
     ALIGN_HELP, ANNOTATE_ABOUT, ANNOTATE_AFTER_HELP, AT_HELP, BASE_HELP, BYTES_HELP, CHART_HELP,
-    DECODE_ABOUT, DECODE_AFTER_HELP, EACH_HELP, FILE_HELP, FORMAT_HELP, HOLDS_HELP, LEAST_HELP,
-    LENGTH_HELP, LINE_HELP, LIST_HELP, MAP_ABOUT, MAP_AFTER_HELP, PERMISSIONS_HELP, PLAN_ABOUT,
-    PLAN_AFTER_HELP, POOL_HELP, POOL_LENGTH_HELP, REALLOC_HELP, REPLAY_ABOUT, REPLAY_AFTER_HELP,
-    REQUEST_BASE_HELP, REQUEST_LENGTH_HELP, ROUND_ABOUT, ROUND_AFTER_HELP, ROUND_BASE_HELP,
-    RUN_ABOUT, RUN_AFTER_HELP, SCRIPT_HELP, SHOW_ABOUT, SHOW_AFTER_HELP, SIZES_HELP, SKIP_HELP,
-    SLOTS_HELP, STATS_HELP, STRICT_HELP, SUMMARY_HELP, SVG_HELP, SWEEP_HELP, TEXT_FILE_HELP,
-    TRACE_FILE_HELP, TRACE_FORMAT_HELP, WINDOW_SVG_HELP, WORD_HELP, WORDS_FILE_HELP,
+    COUNT_HELP, DECODE_ABOUT, DECODE_AFTER_HELP, EACH_HELP, FILE_HELP, FORMAT_HELP, HOLDS_HELP,
+    LEAST_HELP, LENGTH_HELP, LINE_HELP, LIST_HELP, MAP_ABOUT, MAP_AFTER_HELP, PERMISSIONS_HELP,
+    PLAN_ABOUT, PLAN_AFTER_HELP, POOL_HELP, POOL_LENGTH_HELP, REALLOC_HELP, REPLAY_ABOUT,
+    REPLAY_AFTER_HELP, REQUEST_BASE_HELP, REQUEST_LENGTH_HELP, ROUND_ABOUT, ROUND_AFTER_HELP,
+    ROUND_BASE_HELP, RUN_ABOUT, RUN_AFTER_HELP, SCRIPT_HELP, SHOW_ABOUT, SHOW_AFTER_HELP,
+    SIZES_HELP, SKIP_HELP, SLOTS_HELP, STATS_HELP, STRICT_HELP, SUMMARY_HELP, SVG_HELP, SWEEP_HELP,
+    TEXT_FILE_HELP, TRACE_FILE_HELP, TRACE_FORMAT_HELP, UNSEALED_HELP, WINDOW_SVG_HELP, WORD_HELP,
+    WORDS_FILE_HELP,
 };
 
 /// The subject of the help of an argument.
@@ -47,12 +48,16 @@ pub(crate) enum Topic {
     Bytes,
     /// `SKIP_HELP`.
     Skip,
+    /// `COUNT_HELP`.
+    Count,
     /// `AT_HELP`.
     At,
     /// `HOLDS_HELP`.
     Holds,
     /// `PERMISSIONS_HELP`.
     Permissions,
+    /// `UNSEALED_HELP`.
+    Unsealed,
     /// `WORDS_FILE_HELP`.
     WordsFile,
     /// `WINDOW_SVG_HELP`.
@@ -128,9 +133,11 @@ pub(crate) fn help<'a>(topic: Topic) -> &'a str {
         Topic::Format => FORMAT_HELP,
         Topic::Bytes => BYTES_HELP,
         Topic::Skip => SKIP_HELP,
+        Topic::Count => COUNT_HELP,
         Topic::At => AT_HELP,
         Topic::Holds => HOLDS_HELP,
         Topic::Permissions => PERMISSIONS_HELP,
+        Topic::Unsealed => UNSEALED_HELP,
         Topic::WordsFile => WORDS_FILE_HELP,
         Topic::WindowSvg => WINDOW_SVG_HELP,
         Topic::TextFile => TEXT_FILE_HELP,
@@ -492,6 +499,12 @@ const COMMANDS: &[CommandRow] = &[
             },
             Row {
                 kind: Kind::Address,
+                name: "count",
+                placeholder: "N",
+                topic: Topic::Count,
+            },
+            Row {
+                kind: Kind::Address,
                 name: "at",
                 placeholder: "START",
                 topic: Topic::At,
@@ -507,6 +520,12 @@ const COMMANDS: &[CommandRow] = &[
                 name: "perms",
                 placeholder: "NAMES",
                 topic: Topic::Permissions,
+            },
+            Row {
+                kind: Kind::Flag,
+                name: "unsealed",
+                placeholder: "",
+                topic: Topic::Unsealed,
             },
             Row {
                 kind: Kind::Free,

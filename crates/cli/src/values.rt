@@ -117,16 +117,18 @@ pub(crate) fn pool_texts<'a>(matches: &ArgMatches<'a>) -> PoolTexts<'a>
     }
 }
 
-/// Returns the values of the options of `decode` that are numbers or names.
+/// Returns the values of the options of `decode` that are numbers or names, and whether `--unsealed` is given.
 pub(crate) fn decode_values(matches: &ArgMatches<'_>) -> DecodeValues
     requires { search_fault_of (rows_of (found_of matches.now)) ≡ None }
     ensures { HasDecodeValues (rows_of (found_of matches.now)) result }
 {
     DecodeValues {
         skip: address_of(matches, "skip"),
+        count: address_of(matches, "count"),
         at: address_of(matches, "at"),
         holds: address_of(matches, "holds"),
         perms: permissions_of(matches, "perms"),
+        unsealed: is_on(matches, "unsealed"),
     }
 }
 

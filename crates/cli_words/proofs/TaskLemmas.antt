@@ -1,5 +1,5 @@
 -- The output of `decode`, and of `round` for a list, with its hint.
-use Rattle.std.proofs.Common.{◌≡◌, ℕ, Bool, false, ◌&&◌, ◌||◌, [], Option, Result, Ok, Err, subst}
+use Rattle.std.proofs.Common.{◌≡◌, ℕ, ◌≤◌, ◌-◌, Bool, false, ◌&&◌, ◌||◌, List, [], drop, Option, Some, None, IfSome, Result, Ok, Err, refl, subst}
 use Rattle.std.specs.Prelude.{OnErr, OnOk, is_err, true}
 use Rattle.std.proofs.lemmas.Bool.{false≢true}
 use Rattle.std.specs.List.{list_any}
@@ -7,6 +7,10 @@ use Rattle.std.specs.Io.KnownBytes.{Appends}
 use Rattle.cc_io.specs.declared.summary.IoError.{IoError}
 use Rattle.cc_io.specs.declared.summary.Summary.{Summary}
 use Rattle.cc_decode.specs.declared.options.Options.{Options}
+use Rattle.cc_decode.specs.declared.options.Part.{Part}
+use Rattle.cc_io.specs.Devices.{InputState}
+use Rattle.cc_decode.specs.Correct.{Lists}
+use Rattle.cc_decode.proofs.SkipLemmas.{lists_further}
 use Rattle.cli.specs.declared.question.Base.{Base}
 use Rattle.cli.specs.Devices.{Console, FromInput, OnDevices}
 use Rattle.cli_words.specs.BareDigits.{is_bare}
@@ -18,13 +22,28 @@ use Rattle.cli.specs.declared.fault.Fault.TheVariants as fault
 use Rattle.cli.specs.declared.input.InputName.{InputName}
 
 -- The rows of the words of an equal input, in an equal listing.
-pub lists_alike : (skipped other : ℕ) (options others : Options) (name input : InputName) (console : Console) (result : Result Summary Fault)
-    → skipped ≡ other → options ≡ others → name ≡ input
-    → OnDevices (FromInput name console (ListsWords skipped options)) result → OnDevices (FromInput input console (ListsWords other others)) result
-lists_alike skipped other options others name input console result is_skipped is_options is_name f =
+pub lists_alike : (part other : Part) (options others : Options) (name input : InputName) (console : Console) (result : Result Summary Fault)
+    → part ≡ other → options ≡ others → name ≡ input
+    → OnDevices (FromInput name console (ListsWords part options)) result → OnDevices (FromInput input console (ListsWords other others)) result
+lists_alike part other options others name input console result is_part is_options is_name f =
     subst (λ (n : InputName). OnDevices (FromInput n console (ListsWords other others)) result) is_name
     (subst (λ (o : Options). OnDevices (FromInput name console (ListsWords other o)) result) is_options
-    (subst (λ (s : ℕ). OnDevices (FromInput name console (ListsWords s options)) result) is_skipped f))
+    (subst (λ (p : Part). OnDevices (FromInput name console (ListsWords p options)) result) is_part f))
+
+own : (bytes : Option (List ℕ)) → IfSome bytes (λ known. bytes ≡ Some known)
+own None = tt
+own (Some bytes) = refl
+
+-- The rows of the words of a part of an input whose first bytes were passed when it was opened.
+pub lists_opened : (passed : ℕ) (part : Part) (options : Options) (input : InputName) (console : Console) (source : InputState) (io : Result Summary IoError)
+    → passed ≤ part.skipped → IfSome (console.input input) (λ bytes. source.unread ≡ Some (drop passed bytes))
+    → Lists (record { skipped = part.skipped - passed; count = part.count }) options source console.source_now console.output console.output_now io
+    → FromInput input console (ListsWords part options) io
+lists_opened passed part options input console source io fits known lists = record {
+  source = record { unread = console.input input; most_unread = 0; has_failed = false };
+  known = own (console.input input);
+  does = lists_further passed part options (console.input input) source console.source_now console.output console.output_now io fits known lists;
+}
 
 -- The hint on the list, beside its output.
 hinted_too : (base : Option Base) (hints bare : Bool) (input : InputName) (console : Console) (result : Result Summary Fault)

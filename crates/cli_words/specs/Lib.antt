@@ -10,4 +10,4 @@ pub mod NumberHint
 pub mod WordHint
 pub mod Questions
 pub mod Tasks
-pub mod ElfHint
+pub mod FileHint

@@ -9,6 +9,7 @@ use Rattle.cc_io.specs.CommandOutput.{WritesAnswer}
 use Rattle.cli_words.specs.BareDigits.{is_bare}
 use Rattle.cli_words.specs.RoundList.{RoundsList}
 use Rattle.cc_decode.specs.declared.options.Options.{Options}
+use Rattle.cc_decode.specs.declared.options.Part.{Part}
 use Rattle.cc_decode.specs.Annotate.{AnnotatesGiven}
 use Rattle.cc_decode.specs.Correct.{Lists}
 use Rattle.cli.specs.declared.question.Base.{Base}
@@ -24,9 +25,9 @@ pub record AnswersQuestion (question : Question) (hints : Bool) (output output_n
   pub error_is : IfOk result (λ summary. IsTrue summary.any_error ↔ IsUnanswerable question)
   pub hinted : OnOk result (errors_now.has_failed ≡ false → Appends errors.taken errors_now.taken (question_hint hints question))
 
--- ListsWords holds if the rows of the words that the input gave after the skipped bytes were written, up to a failure.
-abbrev pub ListsWords : (skipped : ℕ) (options : Options) → Traffic → Result Summary IoError → Type 0
-ListsWords skipped options traffic result = Lists skipped options traffic.source traffic.source_now traffic.output traffic.output_now result
+-- ListsWords holds if the rows of the words of the part that the input gave were written, up to a failure.
+abbrev pub ListsWords : Part → Options → Traffic → Result Summary IoError → Type 0
+ListsWords part options traffic result = Lists part options traffic.source traffic.source_now traffic.output traffic.output_now result
 
 -- AnnotatesWords holds if the text that the input gave was written, with the line of each word after the word, up to a failure.
 abbrev pub AnnotatesWords : Traffic → Result Summary IoError → Type 0

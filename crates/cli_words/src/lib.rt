@@ -2,8 +2,8 @@
 #![tactic(auto)]
 
 mod bare_digits;
-mod elf_hint;
 mod explaining_bounds;
+mod file_hint;
 mod length_list;
 mod list_line;
 mod listing;

@@ -2,20 +2,20 @@
 ghost use Rattle.std.specs.Prelude.{◌≡◌, ◌≢◌, IsTrue, false, Err, OnErr};
 ghost use Rattle.cli.specs.Devices.{FromInput, IsEnd, OnDevices, OnOutput, console_of};
 ghost use Rattle.cli.specs.Input.{IsFile, file_input};
-ghost use Rattle.cli_words.specs.Listing.{options_of, skipped_of};
+ghost use Rattle.cli_words.specs.Listing.{options_of, part_of};
 ghost use Rattle.cli_words.specs.Tasks.{AnnotatesWords, ListsWords, RoundsLengths, SeesLengths};
 
-use crate::elf_hint::hint_file;
+use crate::file_hint::hint_file;
 use crate::length_list::round_list;
-use crate::listing::options_of;
+use crate::listing::{options_of, part_of};
 use crate::number_hint::hint_list;
 use crate::questions::address_of;
-use cc_decode::{Format, InputForm, Options, annotate, decode_words};
+use cc_decode::{Format, InputForm, Options, Part, annotate, decode_words};
 use cc_io::{Sink, Summary};
 use cli::{Base, Content, DecodeValues, Fault, InputName, Inputs, file_input};
 
-/// Writes a row for each listed word of the input that FILE names. Then writes the hint on an ELF file to `errors`, if
-/// hints are given and a file was decoded as raw words from its first byte on.
+/// Writes a row for each listed word of the part of the input that FILE names. Then writes the hint on an ELF file, or
+/// on lines that end in CR LF, to `errors`, if hints are given and a file was decoded from its first byte on.
 ///
 /// Requires: no device has failed.
 /// Errors: `Open` if the input cannot be opened, and nothing was written then; `Read` if a read fails; `Write` if and
@@ -36,7 +36,7 @@ pub fn decode_file<I: Inputs, W: Sink, E: Sink>(
     requires sink { (W.state sink.old).has_failed ≡ false }
     requires errors { (E.state errors.old).has_failed ≡ false }
     ensures decodes { OnOutput (I.bytes_of inputs.old) (I.Opened.state source.new) (W.state sink.old) (W.state sink.new)
-        (λ console. FromInput (file_input file.entry) console (ListsWords (skipped_of values)
+        (λ console. FromInput (file_input file.entry) console (ListsWords (part_of values)
         (options_of input format values))) result }
     ensures silent { ¬ IsTrue hints → errors.new ≡ errors.old }
     ensures unreported { OnErr result (errors.new ≡ errors.old) }
@@ -47,9 +47,9 @@ pub fn decode_file<I: Inputs, W: Sink, E: Sink>(
     ensures end { IsEnd (I.has_refused inputs.new) (I.Opened.state source.new) (W.state sink.old) (W.state sink.new)
         result }
 {
-    let skipped = values.skip.unwrap_or(0);
+    let part = part_of(&values);
     let options = options_of(input, format, &values);
-    let result = list_words(skipped, options, inputs, source, file_input(file), sink);
+    let result = list_words(part, options, inputs, source, file_input(file), sink);
     if result.is_err() {
         return result;
     }
@@ -57,11 +57,12 @@ pub fn decode_file<I: Inputs, W: Sink, E: Sink>(
     result
 }
 
-/// Writes a row for each listed word of an input after its first bytes.
+/// Writes a row for each listed word of a part of an input. Bytes before the part are read only if the input cannot
+/// pass them.
 // not inlined, so that other commands do not touch the pages of its buffers on the stack
 #[inline(never)]
 fn list_words<I: Inputs, W: Sink>(
-    skipped: u64,
+    part: Part,
     options: Options,
     inputs: &mut I,
     source: &mut I::Opened,
@@ -72,7 +73,7 @@ fn list_words<I: Inputs, W: Sink>(
     requires inputs { I.has_refused inputs.old ≡ false }
     requires sink { (W.state sink.old).has_failed ≡ false }
     ensures lists { OnOutput (I.bytes_of inputs.old) (I.Opened.state source.new) (W.state sink.old) (W.state sink.new)
-        (λ console. FromInput input.entry console (ListsWords skipped options)) result }
+        (λ console. FromInput input.entry console (ListsWords part options)) result }
     ensures open { result ≡ Err Fault.Open → IsFile input.entry }
     ensures memory { result ≢ Err Fault.Memory }
     ensures asked { I.last_asked inputs.new input.entry Content.Words ≡ false → (inputs.new ≡ inputs.old)
@@ -80,8 +81,12 @@ fn list_words<I: Inputs, W: Sink>(
     ensures end { IsEnd (I.has_refused inputs.new) (I.Opened.state source.new) (W.state sink.old) (W.state sink.new)
         result }
 {
-    inputs.open(input, Content::Words, source)?;
-    Ok(decode_words(skipped, options, source, sink)?)
+    let passed = inputs.open_after(input, Content::Words, part.skipped, source)?;
+    let rest = Part {
+        skipped: part.skipped - passed,
+        count: part.count,
+    };
+    Ok(decode_words(rest, options, source, sink)?)
 }
 
 /// Copies the input that FILE names, with the line of each word after the word.
