@@ -13,7 +13,7 @@ use Rattle.cc_io.specs.declared.summary.Summary.{Summary}
 use Rattle.cc_io.proofs.ServingLemmas.{Makes, serves_pumped, serves_text}
 use Rattle.cc_decode.specs.Input.{frame_of, input_entries}
 use Rattle.cc_decode.specs.Output.{AreAnswers}
-use Rattle.cc_decode.specs.Part.{first_of, is_over, unread_after}
+use Rattle.cc_decode.specs.Part.{frame_part, is_part_over, unread_after}
 use Rattle.cc_decode.specs.Place.{header_of}
 use Rattle.cc_decode.specs.Correct.{Lists}
 use Rattle.cc_decode.specs.Decoder.{AnswersEntry, AnswersPlainly, RefusesRest, RefusesUnfinished, plain_options}
@@ -47,7 +47,7 @@ lists_plainly part options old new pending a b c t u result all same is skips ou
     (makes plain_options AnswersPlainly RefusesUnfinished answers_plainly (λ mid rest text is_error next ends. ends) old new))
     (frame_of options.input) 32768 512 pending (header_of options) b c t u result is outcome p in
     lists_after part options a b c t u result served.text skips served.given outcome
-    (subst (λ (count : Option ℕ). ServesText (AreAnswers options) (first_of count (frame_of options.input)) 32768 512 (header_of options) served.text
+    (subst (λ (count : Option ℕ). ServesText (AreAnswers options) (frame_part count (frame_of options.input)) 32768 512 (header_of options) served.text
     (unread_after count (input_entries options.input served.text) c.unread) t.taken u.taken result) (sym all) served.serves)
 
 counts : Counts (λ (decoder : Decoder). decoder.left) AnswersEntry RefusesRest
@@ -60,12 +60,12 @@ counts = record {
 -- the promises of the pump for a decoder give what `decode_words` promises, after skipped bytes
 pub lists_part : (part : Part) (options : Options) (old new : Decoder) (pending : List ℕ) (a b c : InputState) (t u : OutputState) (result : Result Summary IoError)
     → old.left ≡ part.count → old.options ≡ options → pending ≡ header_of options → Skips {E = Failed} part.skipped a b (Ok tt) → IsOutcome c u result
-    → Pumps (λ (decoder : Decoder). is_over decoder.left) AnswersEntry RefusesRest (frame_of options.input) 32768 512 old pending b.unread c.unread t.taken u.taken result new
+    → Pumps (λ (decoder : Decoder). is_part_over decoder.left) AnswersEntry RefusesRest (frame_of options.input) 32768 512 old pending b.unread c.unread t.taken u.taken result new
     → Lists part options a c t u result
 lists_part part options old new pending a b c t u result limit same is skips outcome p =
     lists_after part options a b c t u result p.text skips p.given outcome
-    (subst (λ (l : List ℕ). ServesText (AreAnswers options) (first_of part.count frame) 32768 512 l p.text (unread_after part.count entries c.unread) t.taken u.taken result) is
-    (serves_text AnswersEntry RefusesRest (AreAnswers options) old new made (first_of part.count frame) 32768 512 pending p.text
+    (subst (λ (l : List ℕ). ServesText (AreAnswers options) (frame_part part.count frame) 32768 512 l p.text (unread_after part.count entries c.unread) t.taken u.taken result) is
+    (serves_text AnswersEntry RefusesRest (AreAnswers options) old new made (frame_part part.count frame) 32768 512 pending p.text
     (unread_after part.count entries c.unread) t.taken u.taken result (pumped part.count limit)))
   where
     frame : Frame
@@ -79,13 +79,13 @@ lists_part part options old new pending a b c t u result limit same is skips out
         subst (λ (o : Options). Makes AnswersEntry RefusesRest (AreAnswers o) old new) same
         (makes (λ (decoder : Decoder). decoder.options) AnswersEntry RefusesRest answers_entry (λ mid rest text is_error next ends. ends.0) old new)
 
-    going : old.left ≡ None → (result : Result Summary IoError) → is_over new.left ≡ true → StopsText AnswersEntry frame old pending p.text t.taken u.taken result new → ⊥
-    going none (Ok summary) done s = false≢true (ap is_over (sym (stays (λ (decoder : Decoder). decoder.left) AnswersEntry RefusesRest counts old new s.answered s.answers none s.takes)) ∙ done)
+    going : old.left ≡ None → (result : Result Summary IoError) → is_part_over new.left ≡ true → StopsText AnswersEntry frame old pending p.text t.taken u.taken result new → ⊥
+    going none (Ok summary) done s = false≢true (ap is_part_over (sym (stays (λ (it : Decoder). it.left) AnswersEntry RefusesRest counts old new s.answered s.answers none s.takes)) ∙ done)
     going none (Err Read) done s = s
-    going none (Err Write) done s = false≢true (ap is_over (sym (stays (λ (decoder : Decoder). decoder.left) AnswersEntry RefusesRest counts old new s.1.answered s.1.answers none s.1.takes)) ∙ done)
+    going none (Err Write) done s = false≢true (ap is_part_over (sym (stays (λ (it : Decoder). it.left) AnswersEntry RefusesRest counts old new s.1.answered s.1.answers none s.1.takes)) ∙ done)
 
     pumped : (count : Option ℕ) → old.left ≡ count
-        → PumpsText AnswersEntry RefusesRest (first_of count frame) 32768 512 old pending p.text (unread_after count entries c.unread) t.taken u.taken result new
+        → PumpsText AnswersEntry RefusesRest (frame_part count frame) 32768 512 old pending p.text (unread_after count entries c.unread) t.taken u.taken result new
     pumped None none = elim p.pumps [
       | inl whole ↦ whole
       | inr early ↦ absurd (going none result early.0 early.1)

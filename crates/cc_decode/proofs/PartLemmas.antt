@@ -13,13 +13,13 @@ use Rattle.cc_io.specs.declared.summary.IoError.{IoError}
 use Rattle.cc_io.specs.declared.summary.IoError.TheVariants.{Read, Write}
 use Rattle.cc_io.specs.declared.summary.Summary.{Summary}
 use Rattle.cc_io.proofs.EngineLemmas.{all_further}
-use Rattle.cc_decode.specs.Part.{first_of, is_over, left_after, unread_after}
+use Rattle.cc_decode.specs.Part.{frame_part, is_part_over, left_after, unread_after}
 
 -- a type that counts the entries that it still takes, and stops after them
 pub record Counts {S : Type 0} (left : S → Option ℕ) (Answered Ended : Relation S) : Type 0 where
   pub fewer : (old : S) (entry text : List ℕ) (is_error : Bool) (new : S) → Answered old entry text is_error new → left new ≡ left_after (left old) 1
-  pub going : (old : S) (entry text : List ℕ) (is_error : Bool) (new : S) → Answered old entry text is_error new → is_over (left old) ≡ false
-  pub ended : (old : S) (rest text : List ℕ) (is_error : Bool) (new : S) → Ended old rest text is_error new → is_over (left old) ≡ false
+  pub going : (old : S) (entry text : List ℕ) (is_error : Bool) (new : S) → Answered old entry text is_error new → is_part_over (left old) ≡ false
+  pub ended : (old : S) (rest text : List ℕ) (is_error : Bool) (new : S) → Ended old rest text is_error new → is_part_over (left old) ≡ false
 
 or_false : (b : Bool) → b ≡ (b || false)
 or_false true = refl
@@ -45,7 +45,7 @@ module _ {S : Type 0} (left : S → Option ℕ) (Answered Ended : Relation S) (c
   counted old new [] [] limit is t = record { within = omega arith; rest = let same : limit ≡ limit - 0 = omega arith in ap left t ∙ is ∙ ap Some same }
   counted old new (entry ∷ entries) (answer ∷ answers) limit is t =
       let going : (limit == 0) ≡ false =
-      subst (λ (o : Option ℕ). is_over o ≡ false) is (counts.going old entry answer.text answer.is_error t.0 t.1) in
+      subst (λ (o : Option ℕ). is_part_over o ≡ false) is (counts.going old entry answer.text answer.is_error t.0 t.1) in
       let some : limit ≡ 0 → ⊥ = eqb-false limit 0 going in
       let positive : 0 < limit = above limit some in
       let after = counted t.0 new entries answers (limit - 1) (counts.fewer old entry answer.text answer.is_error t.0 t.1 ∙ ap (λ (o : Option ℕ). left_after o 1) is) t.2 in
@@ -67,7 +67,7 @@ module _ {S : Type 0} (left : S → Option ℕ) (Answered Ended : Relation S) (c
   stays old new (entry ∷ entries) [] is t = absurd t
 
   -- trailing bytes have a reply only if a further entry would have one
-  ends_first : (mid new : S) (over : Bool) (rest : List ℕ) (ending : Answer) → is_over (left mid) ≡ over → EndsWith Ended mid (take 129 rest) ending new
+  ends_first : (mid new : S) (over : Bool) (rest : List ℕ) (ending : Answer) → is_part_over (left mid) ≡ over → EndsWith Ended mid (take 129 rest) ending new
       → EndsWith Ended mid (take 129 (if over then [] else rest)) ending new
   ends_first mid new true [] ending is e = e
   ends_first mid new true (byte ∷ rest) ending is e = absurd (false≢true (sym (counts.ended mid (byte ∷ take 128 rest) ending.text ending.is_error new e) ∙ is))
@@ -82,7 +82,7 @@ module _ {S : Type 0} (left : S → Option ℕ) (Answered Ended : Relation S) (c
     all = frame.entries [] text
 
     abbrev over : Bool
-    over = is_over (Some (limit - length all))
+    over = is_part_over (Some (limit - length all))
 
     seen_length : length (seen all) ≡ length all
     seen_length = length-map all (take 129)
@@ -91,11 +91,11 @@ module _ {S : Type 0} (left : S → Option ℕ) (Answered Ended : Relation S) (c
     all_first : length (seen all) ≤ limit → take limit all ≡ all
     all_first fits = let short : length all ≤ limit = omega (arith, fits, seen_length) in take_all limit all short
 
-    over_after : (mid : S) → Counted limit (length (seen all)) mid → is_over (left mid) ≡ over
-    over_after mid c = ap is_over (c.rest ∙ ap (λ (n : ℕ). Some (limit - n)) seen_length)
+    over_after : (mid : S) → Counted limit (length (seen all)) mid → is_part_over (left mid) ≡ over
+    over_after mid c = ap is_part_over (c.rest ∙ ap (λ (n : ℕ). Some (limit - n)) seen_length)
 
     output_first : (old new : S) (output : List ℕ) (error : Bool) → left old ≡ Some limit → Output Answered Ended frame old text output error new
-        → Output Answered Ended (first_of (Some limit) frame) old text output error new
+        → Output Answered Ended (frame_part (Some limit) frame) old text output error new
     output_first old new output error is o =
         let c = counted old o.mid (seen all) o.answers limit is o.takes in
         record {
@@ -109,7 +109,7 @@ module _ {S : Type 0} (left : S → Option ℕ) (Answered Ended : Relation S) (c
         }
 
     after_first : (old new : S) (pending : List ℕ) (t u : Option (List ℕ)) → left old ≡ Some limit
-        → StopsAfterAnswers Answered Ended frame old pending text t u new → StopsAfterAnswers Answered Ended (first_of (Some limit) frame) old pending text t u new
+        → StopsAfterAnswers Answered Ended frame old pending text t u new → StopsAfterAnswers Answered Ended (frame_part (Some limit) frame) old pending text t u new
     after_first old new pending t u is s =
         let c = counted old s.mid (seen all) s.answers limit is s.takes in
         record {
@@ -151,12 +151,12 @@ module _ {S : Type 0} (left : S → Option ℕ) (Answered Ended : Relation S) (c
       first_are : seen (take limit all) ≡ answered
       is_over : over ≡ true
 
-    stopped : (old new : S) (answered later : List (List ℕ)) (answers : List Answer) → left old ≡ Some limit → is_over (left new) ≡ true
+    stopped : (old new : S) (answered later : List (List ℕ)) (answers : List Answer) → left old ≡ Some limit → is_part_over (left new) ≡ true
         → seen all ≡ answered ++ later → AnswersAll Answered old answered answers new → Stopped answered later
     stopped old new answered later answers is done are takes =
         let c = counted old new answered answers limit is takes in
         let none : limit - length answered ≡ 0 =
-        eqb-true (limit - length answered) 0 (subst (λ (o : Option ℕ). is_over o ≡ true) c.rest done) in
+        eqb-true (limit - length answered) 0 (subst (λ (o : Option ℕ). is_part_over o ≡ true) c.rest done) in
         let total : length all ≡ length answered + length later = sym seen_length ∙ ap length are ∙ length-append answered later in
         let rest : limit - length all ≡ 0 = omega (arith, none, total) in
         record {
@@ -173,7 +173,7 @@ module _ {S : Type 0} (left : S → Option ℕ) (Answered Ended : Relation S) (c
 
     pub pumps_first : (room most : ℕ) (old new : S) (pending : List ℕ) (j t u : Option (List ℕ)) (result : Result Summary IoError) → left old ≡ Some limit
         → PumpsText Answered Ended frame room most old pending text j t u result new
-        → PumpsText Answered Ended (first_of (Some limit) frame) room most old pending text (unread_after (Some limit) all j) t u result new
+        → PumpsText Answered Ended (frame_part (Some limit) frame) room most old pending text (unread_after (Some limit) all j) t u result new
     pumps_first room most old new pending j t u (Ok summary) is p = (
       at_end over j p.0,
       record { output = p.1.output; of_text = output_first old new p.1.output summary.any_error is p.1.of_text; written = p.1.written },
@@ -197,8 +197,8 @@ module _ {S : Type 0} (left : S → Option ℕ) (Answered Ended : Relation S) (c
     over_end j is = subst (λ (b : Bool). IsAtEnd (if b then None else j)) (sym is) tt
 
     pub stops_first : (room most : ℕ) (old new : S) (pending : List ℕ) (j t u : Option (List ℕ)) (result : Result Summary IoError) → left old ≡ Some limit
-        → is_over (left new) ≡ true → StopsText Answered frame old pending text t u result new
-        → PumpsText Answered Ended (first_of (Some limit) frame) room most old pending text (unread_after (Some limit) all j) t u result new
+        → is_part_over (left new) ≡ true → StopsText Answered frame old pending text t u result new
+        → PumpsText Answered Ended (frame_part (Some limit) frame) room most old pending text (unread_after (Some limit) all j) t u result new
     stops_first room most old new pending j t u (Ok summary) is done s =
         let stop = stopped old new s.answered s.later s.answers is done s.entries_are s.takes in (
           over_end j stop.is_over,

@@ -55,7 +55,7 @@ use Rattle.cc_io.specs.declared.summary.Summary.{Summary}
 use Rattle.cc_decode.specs.Correct.{Lists}
 use Rattle.cc_decode.specs.Input.{frame_of, input_entries}
 use Rattle.cc_decode.specs.Output.{AreAnswers}
-use Rattle.cc_decode.specs.Part.{first_of, unread_after}
+use Rattle.cc_decode.specs.Part.{frame_part, unread_after}
 use Rattle.cc_decode.specs.Place.{header_of}
 use Rattle.cc_decode.specs.Skip.{Skips}
 use Rattle.cc_decode.specs.declared.options.Options.{Options}
@@ -160,7 +160,7 @@ whole count (Some xs) (Some ys) (Some zs) text rest given ends after = record {
 -- the listing of the part after the skipped bytes
 pub lists_after : (part : Part) (options : Options) (a b c : InputState) (t u : OutputState) (result : Result Summary IoError) (text : List ℕ)
     → Skips {E = Failed} part.skipped a b (Ok tt) → Consumes b.unread c.unread text → IsOutcome c u result
-    → ServesText (AreAnswers options) (first_of part.count (frame_of options.input)) 32768 512 (header_of options) text
+    → ServesText (AreAnswers options) (frame_part part.count (frame_of options.input)) 32768 512 (header_of options) text
     (unread_after part.count (input_entries options.input text) c.unread) t.taken u.taken result → Lists part options a c t u result
 lists_after part options a b c t u result text skips given outcome serves =
     let w = whole part.skipped a.unread b.unread c.unread skips.text text skips.given skips.ends given in
@@ -168,7 +168,7 @@ lists_after part options a b c t u result text skips given outcome serves =
       text = w.text;
       given = w.given;
       lists =
-          inr (subst (λ (l : List ℕ). ServesText (AreAnswers options) (first_of part.count (frame_of options.input)) 32768 512 (header_of options) l
+          inr (subst (λ (l : List ℕ). ServesText (AreAnswers options) (frame_part part.count (frame_of options.input)) 32768 512 (header_of options) l
           (unread_after part.count (input_entries options.input l) c.unread) t.taken u.taken result) w.rest_is serves);
       outcome = outcome;
     }
@@ -194,14 +194,14 @@ over_none : (input : InputForm) (left : Option (List ℕ)) → IsAtEnd (unread_a
 over_none Lines left = tt
 over_none (Bytes order) left = tt
 
-rest_none : (input : InputForm) → (first_of (Some 0) (frame_of input)).left [] [] ≡ []
+rest_none : (input : InputForm) → (frame_part (Some 0) (frame_of input)).left [] [] ≡ []
 rest_none Lines = refl
 rest_none (Bytes order) = refl
 
 -- what is written of no entries
 abbrev Heads : (count : Option ℕ) (options : Options) (header : List ℕ) (left t u : Option (List ℕ)) → Result Summary IoError → Type 0
 Heads count options header left t u result =
-    ServesText (AreAnswers options) (first_of count (frame_of options.input)) 32768 512 header [] (unread_after count (input_entries options.input []) left) t u result
+    ServesText (AreAnswers options) (frame_part count (frame_of options.input)) 32768 512 header [] (unread_after count (input_entries options.input []) left) t u result
 
 -- the flush failed, or a write of the header did
 stops_header : (options : Options) (header : List ℕ) (left t u : Option (List ℕ)) → TakesPrefix t u header → Heads (Some 0) options header left t u (Err Write)
@@ -332,7 +332,7 @@ lists_further passed part options bytes a c t u result fits known l =
       lists = elim l.lists [
         | inl failed ↦ inl (failed.0, omega (arith, w.few, failed.1, fits), failed.2)
         | inr serves ↦
-            inr (subst (λ (rest : List ℕ). ServesText (AreAnswers options) (first_of part.count (frame_of options.input)) 32768 512 (header_of options) rest
+            inr (subst (λ (rest : List ℕ). ServesText (AreAnswers options) (frame_part part.count (frame_of options.input)) 32768 512 (header_of options) rest
             (unread_after part.count (input_entries options.input rest) c.unread) t.taken u.taken result) w.rest_is serves)
       ];
       outcome = l.outcome;

@@ -9,7 +9,7 @@ use Rattle.cc_io.specs.declared.summary.IoError.TheVariants.{Read}
 use Rattle.cc_io.specs.declared.summary.Summary.{Summary}
 use Rattle.cc_decode.specs.Input.{frame_of, input_entries}
 use Rattle.cc_decode.specs.Output.{AreAnswers}
-use Rattle.cc_decode.specs.Part.{first_of, unread_after}
+use Rattle.cc_decode.specs.Part.{frame_part, unread_after}
 use Rattle.cc_decode.specs.Place.{header_of}
 use Rattle.cc_decode.specs.declared.options.Options.{Options}
 use Rattle.cc_decode.specs.declared.options.Part.{Part}
@@ -30,6 +30,6 @@ pub record Lists (part : Part) (options : Options) (input input_now : InputState
   pub given : Consumes input.unread input_now.unread text
   pub lists :
       ((result ≡ Err Read) × (length text < part.skipped) × (output_now.taken ≡ output.taken))
-      ⊎ ServesText (AreAnswers options) (first_of part.count (frame_of options.input)) 32768 512 (header_of options) (drop part.skipped text)
+      ⊎ ServesText (AreAnswers options) (frame_part part.count (frame_of options.input)) 32768 512 (header_of options) (drop part.skipped text)
       (unread_after part.count (input_entries options.input (drop part.skipped text)) input_now.unread) output.taken output_now.taken result
   pub outcome : IsOutcome input_now output_now result

@@ -3,7 +3,7 @@ use Rattle.std.specs.Prelude.{◌≡◌, ℕ, Bool, true, false, List, ◌++◌,
 use Rattle.cc_word.specs.declared.refusal.Refusal.TheVariants.{Unfinished}
 use Rattle.cc_io.specs.Text.{with_line_feed, refusal_text}
 use Rattle.cc_io.specs.Answers.{Relation}
-use Rattle.cc_decode.specs.Part.{is_over, left_after}
+use Rattle.cc_decode.specs.Part.{is_part_over, left_after}
 use Rattle.cc_decode.specs.Place.{after_entry}
 use Rattle.cc_decode.specs.Row.{IsWordRow}
 use Rattle.cc_decode.specs.Output.{IsAnswer, IsWordAnswer, refused_text}
@@ -25,7 +25,7 @@ AnswersPlainly old entry text is_error new = IsAnswer (plain_options old) entry 
 pub record AnswersEntry (old : Decoder) (entry text : List ℕ) (is_error : Bool) (new : Decoder) : Type 0 where
   pub answer : IsAnswer old.options entry (record { text = text; is_error = is_error })
   pub options : new.options ≡ after_entry old.options
-  pub goes_on : is_over old.left ≡ false
+  pub goes_on : is_part_over old.left ≡ false
   pub left : new.left ≡ left_after old.left 1
 
 -- RefusesUnfinished holds if `text` is `error 2 unfinished`.
@@ -34,7 +34,7 @@ RefusesUnfinished {S} old rest text is_error new = (text ≡ with_line_feed (ref
 
 -- RefusesRest holds if `text` is `error 2 unfinished`, and a further entry would still be decoded.
 abbrev pub RefusesRest : Relation Decoder
-RefusesRest old rest text is_error new = RefusesUnfinished old rest text is_error new × (is_over old.left ≡ false)
+RefusesRest old rest text is_error new = RefusesUnfinished old rest text is_error new × (is_part_over old.left ≡ false)
 
 -- AppendsRow holds if the row of the word was appended.
 pub record AppendsRow (format : Format) (word : ℕ) (old new : List ℕ) : Type 0 where

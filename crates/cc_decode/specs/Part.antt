@@ -3,9 +3,9 @@ use Rattle.std.specs.Prelude.{ℕ, Bool, ◌-◌, ◌==◌, false, List, [], len
 use Rattle.cc_io.specs.Frames.{Frame}
 
 -- Whether no further entry is decoded, if `left` of them still were.
-abbrev pub is_over : (left : Option ℕ) → Bool
-is_over None = false
-is_over (Some left) = left == 0
+abbrev pub is_part_over : (left : Option ℕ) → Bool
+is_part_over None = false
+is_part_over (Some left) = left == 0
 
 -- The number of entries that are still decoded after `count` more.
 abbrev pub left_after : (left : Option ℕ) (count : ℕ) → Option ℕ
@@ -18,12 +18,12 @@ first_entries (Some left) entries = take left entries
 
 -- The way to cut an input into its first entries alone. Bytes after the last that is decoded are not
 -- trailing bytes.
-abbrev pub first_of : (left : Option ℕ) → Frame → Frame
-first_of left frame = record {
+abbrev pub frame_part : (left : Option ℕ) → Frame → Frame
+frame_part left frame = record {
   entries = λ begun text. first_entries left (frame.entries begun text);
-  left = λ begun text. if is_over (left_after left (length (frame.entries begun text))) then [] else frame.left begun text;
+  left = λ begun text. if is_part_over (left_after left (length (frame.entries begun text))) then [] else frame.left begun text;
 }
 
 -- The unread bytes of an input after some entries, if they are decoded.
 abbrev pub unread_after : (left : Option ℕ) → List (List ℕ) → (unread : Option (List ℕ)) → Option (List ℕ)
-unread_after left entries unread = if is_over (left_after left (length entries)) then None else unread
+unread_after left entries unread = if is_part_over (left_after left (length entries)) then None else unread

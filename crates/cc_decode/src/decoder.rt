@@ -10,7 +10,7 @@ ghost use Rattle.cc_decode.specs.Decoder.{
   RefusesRest,
   RefusesUnfinished,
 };
-ghost use Rattle.cc_decode.specs.Part.{is_over, left_after};
+ghost use Rattle.cc_decode.specs.Part.{is_part_over, left_after};
 
 use crate::entries::read_entry;
 use crate::options::Options;
@@ -85,7 +85,7 @@ impl Answerer<ROOM> for Decoder {
 
     ghost MOST = { 512 };
 
-    ghost done = { λ decoder. is_over decoder.left };
+    ghost done = { λ decoder. is_part_over decoder.left };
 
     #[inline(always)]
     fn is_done(&self) -> bool {
@@ -115,7 +115,7 @@ impl Answerer<ROOM> for Decoder {
 
 /// Returns the number of entries that are decoded after one more.
 fn fewer(left: Option<u64>) -> Option<u64>
-    requires { is_over left ≡ false }
+    requires { is_part_over left ≡ false }
     ensures { result ≡ left_after left 1 }
 {
     match left {

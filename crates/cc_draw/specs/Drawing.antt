@@ -12,7 +12,8 @@ use Rattle.cc_plan.specs.Plan.{Plan, is_freed}
 use Rattle.cc_io.specs.Numbered.{line_with_decimal, line_with_hexadecimal, with_decimal, with_hexadecimal}
 use Rattle.cc_io.specs.Svg.{markup}
 use Rattle.cc_draw.specs.Cells.{cell_bytes, cell_count, cell_of}
-use Rattle.cc_draw.specs.Usage.{is_live, is_swept, pool_span}
+use Rattle.cc_draw.specs.Usage.{is_swept, pool_span}
+use Rattle.cc_plan.specs.PlannerState.{is_live}
 use Rattle.cc_draw.specs.declared.layout.Layout.{Layout}
 
 -- ---- the layout

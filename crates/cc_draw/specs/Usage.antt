@@ -7,13 +7,8 @@ use Rattle.cc_plan.specs.declared.planned_object.ObjectState.{ObjectState}
 use Rattle.cc_plan.specs.declared.planned_object.ObjectState.TheVariants.{Live, Freed, Swept}
 use Rattle.cc_plan.specs.declared.planned_object.PlannedObject.{PlannedObject}
 use Rattle.cc_plan.specs.Plan.{Plan, plan_bytes, plan_spans, is_freed, is_held}
+use Rattle.cc_plan.specs.PlannerState.{is_live}
 use Rattle.cc_values.specs.declared.usage.Usage.{Usage}
-
--- `is_live` holds if the object is live: it was not freed.
-abbrev pub is_live : ObjectState → Bool
-is_live Live = true
-is_live Freed = false
-is_live Swept = false
 
 -- `is_swept` holds if the object is swept: a sweep released its bytes.
 abbrev pub is_swept : ObjectState → Bool

@@ -3,7 +3,8 @@ ghost use Rattle.std.specs.Prelude.{◌≡◌, ◌≤◌, ◌<◌, ◌+◌, ◌^
 ghost use Rattle.std.specs.List.Sorted.{IsNonDecreasingBy, IsPermutation};
 ghost use Rattle.cc_bounds.specs.Span.{from_zero};
 ghost use Rattle.cc_plan.specs.Plan.{plan_spans, is_freed, is_held};
-ghost use Rattle.cc_draw.specs.Usage.{IsUsage, asked_bytes_of, largest_of, highest_top, hole, holes, is_live, is_swept};
+ghost use Rattle.cc_draw.specs.Usage.{IsUsage, asked_bytes_of, largest_of, highest_top, hole, holes, is_swept};
+ghost use Rattle.cc_plan.specs.PlannerState.{is_live};
 
 use cc_bounds::Span;
 use cc_cap::Cap;

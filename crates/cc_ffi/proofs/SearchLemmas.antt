@@ -17,7 +17,7 @@ use Rattle.cc_bounds.proofs.SoundDecodingLemmas.{sound-decodes}
 use Rattle.cc_cap.specs.Capability.{Capability, IsCapability, IsUnsealed, sealed_with}
 use Rattle.cc_cap.specs.Canonical.{IsCanonical, IsFieldsOf, IsWordOf}
 use Rattle.cc_ffi.specs.declared.structs.Query.{Query}
-use Rattle.cc_ffi.specs.Search.{AreUnsealed, IsListed, IsSentryOf, IsTaggable, IsWanted, position_at}
+use Rattle.cc_ffi.specs.Search.{AreUnsealed, IsListed, IsSentryOf, IsWordFor, IsWanted, position_at}
 use Rattle.cc_ffi.proofs.RuleLemmas.{own_fields}
 
 -- ---- types
@@ -70,14 +70,14 @@ sentry_of cap fields made same sentry has = record {
 
 -- a taggable word with a sentry's type is a wanted sentry
 pub sentry_kind : (query : Query) (word : ℕ) (fields : Fields) → word_of fields ≡ word → fields.otype ≡ sentry_type
-    → (cap : Capability) → IsTaggable query cap word → IsSentryOf cap word × IsTrue query.sentries
+    → (cap : Capability) → IsWordFor query cap word → IsSentryOf cap word × IsTrue query.sentries
 sentry_kind query word fields is sentry cap (inl has) =
     absurd (no_sentry cap.otype has.0.is_capability.is_type (sym (own_fields cap word fields has.0 is).otype ∙ sentry))
 sentry_kind query word fields is sentry cap (inr s) = s
 
 -- a sentry is taggable exactly if it is wanted, and canonical with the type unsealed
 pub sentry_taggable : (query : Query) (word : ℕ) (fields made : Fields) → word_of fields ≡ word → fields.otype ≡ sentry_type
-    → AreUnsealed fields made → ((cap : Capability) × IsTaggable query cap word) ↔ (IsTrue query.sentries × IsCanonical (word_of made))
+    → AreUnsealed fields made → ((cap : Capability) × IsWordFor query cap word) ↔ (IsTrue query.sentries × IsCanonical (word_of made))
 sentry_taggable query word fields made is sentry same = (
   λ taggable.
       let cap : Capability = taggable.0 in
@@ -113,7 +113,7 @@ sentry_taggable query word fields made is sentry same = (
 
 -- a word of another type is taggable exactly if it is canonical, and wanted if it is sealed
 other_made : (query : Query) (word : ℕ) (fields : Fields) → word_of fields ≡ word → fields.otype ≢ sentry_type
-    → (cap : Capability) → IsTaggable query cap word → IsCanonical word × (fields.otype ≢ unsealed_type → IsTrue query.sealed)
+    → (cap : Capability) → IsWordFor query cap word → IsCanonical word × (fields.otype ≢ unsealed_type → IsTrue query.sealed)
 other_made query word fields is plain cap (inl has) =
     let own = own_fields cap word fields has.0 is in (
       (cap, has.0),
@@ -126,7 +126,7 @@ other_made query word fields is plain cap (inl has) =
 other_made query word fields is plain cap (inr s) = absurd (plain (sentry_fields cap word fields s.0 is).otype)
 
 pub other_taggable : (query : Query) (word : ℕ) (fields : Fields) → word_of fields ≡ word → fields.otype ≢ sentry_type
-    → ((cap : Capability) × IsTaggable query cap word) ↔ (IsCanonical word × (fields.otype ≢ unsealed_type → IsTrue query.sealed))
+    → ((cap : Capability) × IsWordFor query cap word) ↔ (IsCanonical word × (fields.otype ≢ unsealed_type → IsTrue query.sealed))
 other_taggable query word fields is plain = (
   λ taggable. other_made query word fields is plain taggable.0 taggable.1,
   λ both.
@@ -150,7 +150,7 @@ stored cap fields is permissions address bounds = record {
   decodes = sound-decodes cap.span is.is_span is.sound fields bounds (subst (Represents cap.span) (sym address) is.representable);
 }
 
-taggable_fields : (query : Query) (cap : Capability) (word : ℕ) (fields : Fields) → word_of fields ≡ word → IsTaggable query cap word
+taggable_fields : (query : Query) (cap : Capability) (word : ℕ) (fields : Fields) → word_of fields ≡ word → IsWordFor query cap word
     → IsOf cap fields
 taggable_fields query cap word fields is (inl has) =
     let own = own_fields cap word fields has.0 is in
@@ -171,7 +171,7 @@ wanted_perms query word fields is w =
 -- a taggable word with the permissions is wanted if its bounds are
 pub wanted_if : (query : Query) (word : ℕ) (fields : Fields) → word_of fields ≡ word
     → HasAll fields.perms query.perms × (IsTrue query.needs_permission → fields.perms ≢ 0)
-    → ((cap : Capability) × IsTaggable query cap word) → (answer : Type 0)
+    → ((cap : Capability) × IsWordFor query cap word) → (answer : Type 0)
     → ((span : Span) → DecodesTo fields span → answer ↔ (IsTrue query.needs_address → HasByte span query.address)) → answer ↔ IsWanted query word
 wanted_if query word fields is perms taggable answer holds = (
   λ yes.

@@ -19,10 +19,10 @@ pub record IsSentryOf (cap : Capability) (word : ℕ) : Type 0 where
   pub is_fields : IsFieldsOf (sealed_with cap sentry_type) fields
   pub is_word : word ≡ word_of fields
 
--- IsTaggable holds if the word can have a tag and grants what the capability grants, and if the query
+-- IsWordFor holds if the word can have a tag and grants what the capability grants, and if the query
 -- wants its type: the word is the capability's, or it is a sentry of the capability.
-abbrev pub IsTaggable : Query → Capability → (word : ℕ) → Type 0
-IsTaggable query cap word =
+abbrev pub IsWordFor : Query → Capability → (word : ℕ) → Type 0
+IsWordFor query cap word =
     (IsWordOf cap word × (IsSealed cap → IsTrue query.sealed)) ⊎ (IsSentryOf cap word × IsTrue query.sentries)
 
 -- GrantsWanted holds if the capability grants what the query wants: all permissions of a mask, at
@@ -35,7 +35,7 @@ pub record GrantsWanted (query : Query) (cap : Capability) : Type 0 where
 -- IsWanted holds if the query wants the word.
 pub record IsWanted (query : Query) (word : ℕ) : Type 0 where
   pub cap : Capability
-  pub taggable : IsTaggable query cap word
+  pub taggable : IsWordFor query cap word
   pub grants : GrantsWanted query cap
 
 -- HasTag holds if the bit at a position is set. A byte has the bits of eight positions, the first in

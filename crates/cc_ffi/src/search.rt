@@ -8,7 +8,7 @@ ghost use Rattle.cc_bounds.specs.Span.{HasByte};
 ghost use Rattle.cc_bounds.specs.declared.span.Span.{Span as SpanSpec};
 ghost use Rattle.cc_cap.specs.Capability.{Capability};
 ghost use Rattle.cc_ffi.specs.Numbers.{number_in};
-ghost use Rattle.cc_ffi.specs.Search.{AreUnsealed, EndsSearch, HasTag, IsListed, IsTaggable, IsWanted, IsWantedAt};
+ghost use Rattle.cc_ffi.specs.Search.{AreUnsealed, EndsSearch, HasTag, IsListed, IsWordFor, IsWanted, IsWantedAt};
 ghost use Rattle.cc_ffi.specs.Search.{searchable};
 
 use crate::c_memory::word_of;
@@ -123,7 +123,7 @@ fn contains_wanted(query: &Query, fields: &Fields) -> bool
 #[inline(always)]
 fn is_taggable(query: &Query, word: u128, fields: &Fields) -> bool
     requires { word_of fields.now ≡ word }
-    ensures { IsTrue result ↔ ((cap : Capability) × IsTaggable query.now cap word) }
+    ensures { IsTrue result ↔ ((cap : Capability) × IsWordFor query.now cap word) }
 {
     match fields.otype {
         SENTRY_TYPE => query.sentries && is_canonical(pack(&unsealed(fields))),

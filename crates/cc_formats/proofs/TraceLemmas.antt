@@ -9,7 +9,7 @@ use Rattle.cc_values.specs.Values.{address_in, both, single, words_of}
 use Rattle.cc_values.proofs.SpaceLemmas.{address_in_single}
 use Rattle.cc_placer.specs.declared.event.Event.{Event}
 use Rattle.cc_placer.specs.declared.event.Event.TheVariants as event
-use Rattle.cc_formats.specs.Trace.{alignment_in, allocation_in, as_alignment, clearing_in, entry_of, pair_in, reallocation_in, single_in, sweep_in, with_values}
+use Rattle.cc_formats.specs.Trace.{alignment_in, allocation_in, as_alignment, clearing_in, entry_of, pair_in, reallocation_in, single_in, sweep_in, with_trace_values}
 
 -- If one of two values is no number, the error is `Syntax`.
 both_syntax : {A B : Type 0} (first : Result A Refusal) → both {A = A} {B = B} first (Err refusal.Syntax) ≡ Err refusal.Syntax
@@ -24,55 +24,55 @@ some_words text = omega (arith, length-slice_split (λ byte. byte == 32) text)
 -- ---- one value
 
 single_by : (make : ℕ → Event) (text : List ℕ) (words : List (List ℕ)) → address_in text ≡ single address_in words
-    → single_in make words ≡ with_values make (address_in text)
-single_by make text [] is = sym (ap (with_values make) is)
-single_by make text (word ∷ []) is = sym (ap (with_values make) is)
-single_by make text (word ∷ other ∷ words) is = sym (ap (with_values make) is)
+    → single_in make words ≡ with_trace_values make (address_in text)
+single_by make text [] is = sym (ap (with_trace_values make) is)
+single_by make text (word ∷ []) is = sym (ap (with_trace_values make) is)
+single_by make text (word ∷ other ∷ words) is = sym (ap (with_trace_values make) is)
 
-pub single_then : (make : ℕ → Event) (text : List ℕ) → single_in make (words_of text) ≡ with_values make (address_in text)
+pub single_then : (make : ℕ → Event) (text : List ℕ) → single_in make (words_of text) ≡ with_trace_values make (address_in text)
 single_then make text = single_by make text (words_of text) (address_in_single text)
 
 -- ---- two values
 
 clearing_by : (id size : List ℕ) (words : List (List ℕ)) → address_in size ≡ single address_in words
-    → clearing_in (id ∷ words) ≡ with_values (λ pair. event.Clear pair.0 pair.1) (pair_in id size)
+    → clearing_in (id ∷ words) ≡ with_trace_values (λ pair. event.Clear pair.0 pair.1) (pair_in id size)
 clearing_by id size [] is =
-    sym (ap (with_values (λ pair. event.Clear pair.0 pair.1)) (ap (both (address_in id)) is ∙ both_syntax (address_in id)))
+    sym (ap (with_trace_values (λ pair. event.Clear pair.0 pair.1)) (ap (both (address_in id)) is ∙ both_syntax (address_in id)))
 clearing_by id size (word ∷ []) is =
-    sym (ap (with_values (λ pair. event.Clear pair.0 pair.1)) (ap (both (address_in id)) is))
+    sym (ap (with_trace_values (λ pair. event.Clear pair.0 pair.1)) (ap (both (address_in id)) is))
 clearing_by id size (word ∷ other ∷ words) is =
-    sym (ap (with_values (λ pair. event.Clear pair.0 pair.1)) (ap (both (address_in id)) is ∙ both_syntax (address_in id)))
+    sym (ap (with_trace_values (λ pair. event.Clear pair.0 pair.1)) (ap (both (address_in id)) is ∙ both_syntax (address_in id)))
 
-pub clearing_then : (id size : List ℕ) → clearing_in (id ∷ words_of size) ≡ with_values (λ pair. event.Clear pair.0 pair.1) (pair_in id size)
+pub clearing_then : (id size : List ℕ) → clearing_in (id ∷ words_of size) ≡ with_trace_values (λ pair. event.Clear pair.0 pair.1) (pair_in id size)
 clearing_then id size = clearing_by id size (words_of size) (address_in_single size)
 
 -- ---- three values
 
 reallocation_by : (old new size : List ℕ) (words : List (List ℕ)) → address_in size ≡ single address_in words
     → reallocation_in (old ∷ new ∷ words)
-    ≡ with_values (λ all. event.Reallocate all.0.0 all.0.1 all.1) (both (pair_in old new) (address_in size))
+    ≡ with_trace_values (λ all. event.Reallocate all.0.0 all.0.1 all.1) (both (pair_in old new) (address_in size))
 reallocation_by old new size [] is =
-    sym (ap (with_values (λ all. event.Reallocate all.0.0 all.0.1 all.1)) (ap (both (pair_in old new)) is ∙ both_syntax (pair_in old new)))
+    sym (ap (with_trace_values (λ all. event.Reallocate all.0.0 all.0.1 all.1)) (ap (both (pair_in old new)) is ∙ both_syntax (pair_in old new)))
 reallocation_by old new size (word ∷ []) is =
-    sym (ap (with_values (λ all. event.Reallocate all.0.0 all.0.1 all.1)) (ap (both (pair_in old new)) is))
+    sym (ap (with_trace_values (λ all. event.Reallocate all.0.0 all.0.1 all.1)) (ap (both (pair_in old new)) is))
 reallocation_by old new size (word ∷ other ∷ words) is =
-    sym (ap (with_values (λ all. event.Reallocate all.0.0 all.0.1 all.1)) (ap (both (pair_in old new)) is ∙ both_syntax (pair_in old new)))
+    sym (ap (with_trace_values (λ all. event.Reallocate all.0.0 all.0.1 all.1)) (ap (both (pair_in old new)) is ∙ both_syntax (pair_in old new)))
 
 pub reallocation_then : (old new size : List ℕ) → reallocation_in (old ∷ new ∷ words_of size)
-    ≡ with_values (λ all. event.Reallocate all.0.0 all.0.1 all.1) (both (pair_in old new) (address_in size))
+    ≡ with_trace_values (λ all. event.Reallocate all.0.0 all.0.1 all.1) (both (pair_in old new) (address_in size))
 reallocation_then old new size = reallocation_by old new size (words_of size) (address_in_single size)
 
 allocation_by : (id size align : List ℕ) (words : List (List ℕ)) → 0 < length words → address_in align ≡ single address_in words
     → allocation_in (id ∷ size ∷ words)
-    ≡ with_values (λ all. event.Allocate all.0.0 all.0.1 all.1) (both (pair_in id size) (alignment_in align))
+    ≡ with_trace_values (λ all. event.Allocate all.0.0 all.0.1 all.1) (both (pair_in id size) (alignment_in align))
 allocation_by id size align [] some is = absurd (omega (arith, some))
 allocation_by id size align (word ∷ []) some is =
-    sym (ap (λ (r : Result ℕ Refusal). with_values (λ all. event.Allocate all.0.0 all.0.1 all.1) (both (pair_in id size) (as_alignment r))) is)
+    sym (ap (λ (r : Result ℕ Refusal). with_trace_values (λ all. event.Allocate all.0.0 all.0.1 all.1) (both (pair_in id size) (as_alignment r))) is)
 allocation_by id size align (word ∷ other ∷ words) some is =
-    sym (ap (with_values (λ all. event.Allocate all.0.0 all.0.1 all.1)) (ap (λ (r : Result ℕ Refusal). both (pair_in id size) (as_alignment r)) is ∙ both_syntax (pair_in id size)))
+    sym (ap (with_trace_values (λ all. event.Allocate all.0.0 all.0.1 all.1)) (ap (λ (r : Result ℕ Refusal). both (pair_in id size) (as_alignment r)) is ∙ both_syntax (pair_in id size)))
 
 pub allocation_then : (id size align : List ℕ) → allocation_in (id ∷ size ∷ words_of align)
-    ≡ with_values (λ all. event.Allocate all.0.0 all.0.1 all.1) (both (pair_in id size) (alignment_in align))
+    ≡ with_trace_values (λ all. event.Allocate all.0.0 all.0.1 all.1) (both (pair_in id size) (alignment_in align))
 allocation_then id size align = allocation_by id size align (words_of align) (some_words align) (address_in_single align)
 
 -- ---- no value

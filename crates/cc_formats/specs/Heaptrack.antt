@@ -26,17 +26,17 @@ abbrev pub tail_of : (text : List ℕ) → List ℕ
 tail_of text = after_first (λ byte. byte == 32) text
 
 -- `TRACE PTR`: the pointer.
-abbrev pub place_in : (values : List ℕ) → Result ℕ Refusal
-place_in values = second_of (both (hexadecimal_in (head_of values)) (hexadecimal_in (tail_of values)))
+abbrev pub heaptrack_place : (values : List ℕ) → Result ℕ Refusal
+heaptrack_place values = second_of (both (hexadecimal_in (head_of values)) (hexadecimal_in (tail_of values)))
 
 -- `SIZE TRACE PTR`: the size and the pointer.
-abbrev pub object_in : (values : List ℕ) → Result (ℕ × ℕ) Refusal
-object_in values = both (hexadecimal_in (head_of values)) (place_in (tail_of values))
+abbrev pub heaptrack_object : (values : List ℕ) → Result (ℕ × ℕ) Refusal
+heaptrack_object values = both (hexadecimal_in (head_of values)) (heaptrack_place (tail_of values))
 
 -- The report of the values after a sign: `+ SIZE TRACE PTR`, `- PTR`, or `c TIME`.
 abbrev pub values_in : (sign : ℕ) → (values : List ℕ) → Result Report Refusal
 values_in sign values =
-    if sign == 43 then reported (λ object. allocation object.1 object.0) (object_in values)
+    if sign == 43 then reported (λ object. allocation object.1 object.0) (heaptrack_object values)
     else if sign == 45 then reported free (hexadecimal_in values)
     else if sign == 99 then reported report.Clock (hexadecimal_in values)
     else Err Syntax

@@ -33,8 +33,8 @@ abbrev pub has_byte : (at : ℕ) → (text : List ℕ) → Bool
 has_byte at text = nat_lt (position_or_len (λ byte. byte == at) text) (length text)
 
 -- The name of a function, in the bytes before its arguments: after `>` and after a space, if there are such.
-abbrev pub name_of : (head : List ℕ) → List ℕ
-name_of head = after_or_all 32 (after_or_all 62 head)
+abbrev pub ltrace_name : (head : List ℕ) → List ℕ
+ltrace_name head = after_or_all 32 (after_or_all 62 head)
 
 -- The arguments of a call: the bytes before the first `)`.
 abbrev pub arguments_of : (call : List ℕ) → List ℕ
@@ -104,4 +104,4 @@ called_in name call =
 unfoldable pub ltrace_in : (line : List ℕ) → Result Report Refusal
 ltrace_in line =
     if nat_lt 128 (length line) then Err Syntax
-    else called_in (name_of (before_first (λ byte. byte == 40) line)) (after_first (λ byte. byte == 40) line)
+    else called_in (ltrace_name (before_first (λ byte. byte == 40) line)) (after_first (λ byte. byte == 40) line)

@@ -19,15 +19,15 @@ signed_in sign values =
     else Err Syntax
 
 -- An operation: a sign, a space and its values.
-abbrev pub operation_in : (text : List ℕ) → Result Report Refusal
-operation_in [] = Err Syntax
-operation_in (sign ∷ []) = Err Syntax
-operation_in (sign ∷ space ∷ values) = if space == 32 then signed_in sign values else Err Syntax
+abbrev pub mtrace_operation : (text : List ℕ) → Result Report Refusal
+mtrace_operation [] = Err Syntax
+mtrace_operation (sign ∷ []) = Err Syntax
+mtrace_operation (sign ∷ space ∷ values) = if space == 32 then signed_in sign values else Err Syntax
 
 -- An operation after a space.
 abbrev pub spaced_in : (text : List ℕ) → Result Report Refusal
 spaced_in [] = Err Syntax
-spaced_in (space ∷ text) = if space == 32 then operation_in text else Err Syntax
+spaced_in (space ∷ text) = if space == 32 then mtrace_operation text else Err Syntax
 
 -- The report of `CALLER OPERATION`: the caller ends with the first `]`.
 abbrev pub after_caller : (text : List ℕ) → Result Report Refusal
@@ -47,7 +47,7 @@ mtrace_in (first ∷ rest) =
     if first == 61 then Ok report.Nothing
     else if nat_lt 128 (length (first ∷ rest)) then Err Syntax
     else if first == 64 then called_in rest
-    else operation_in (first ∷ rest)
+    else mtrace_operation (first ∷ rest)
 
 -- ---- The lines as `mtrace` writes them.
 

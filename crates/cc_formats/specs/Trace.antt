@@ -22,31 +22,31 @@ abbrev pub pair_in : (first second : List ℕ) → Result (ℕ × ℕ) Refusal
 pair_in first second = both (address_in first) (address_in second)
 
 -- The event of the values, or their error.
-abbrev pub with_values : {A : Type 0} → (make : A → Event) → Result A Refusal → Result Event Refusal
-with_values make (Ok values) = Ok (make values)
-with_values make (Err refusal) = Err refusal
+abbrev pub with_trace_values : {A : Type 0} → (make : A → Event) → Result A Refusal → Result Event Refusal
+with_trace_values make (Ok values) = Ok (make values)
+with_trace_values make (Err refusal) = Err refusal
 
 -- The event of `a ID SIZE [ALIGN]`, from its values. An alignment that is omitted is 1.
 abbrev pub allocation_in : (values : List (List ℕ)) → Result Event Refusal
-allocation_in (id ∷ size ∷ []) = with_values (λ pair. event.Allocate pair.0 pair.1 1) (pair_in id size)
+allocation_in (id ∷ size ∷ []) = with_trace_values (λ pair. event.Allocate pair.0 pair.1 1) (pair_in id size)
 allocation_in (id ∷ size ∷ align ∷ []) =
-    with_values (λ all. event.Allocate all.0.0 all.0.1 all.1) (both (pair_in id size) (alignment_in align))
+    with_trace_values (λ all. event.Allocate all.0.0 all.0.1 all.1) (both (pair_in id size) (alignment_in align))
 allocation_in _ = Err Syntax
 
 -- The event of `c ID SIZE`, from its values.
 abbrev pub clearing_in : (values : List (List ℕ)) → Result Event Refusal
-clearing_in (id ∷ size ∷ []) = with_values (λ pair. event.Clear pair.0 pair.1) (pair_in id size)
+clearing_in (id ∷ size ∷ []) = with_trace_values (λ pair. event.Clear pair.0 pair.1) (pair_in id size)
 clearing_in _ = Err Syntax
 
 -- The event of `r OLD NEW SIZE`, from its values.
 abbrev pub reallocation_in : (values : List (List ℕ)) → Result Event Refusal
 reallocation_in (old ∷ new ∷ size ∷ []) =
-    with_values (λ all. event.Reallocate all.0.0 all.0.1 all.1) (both (pair_in old new) (address_in size))
+    with_trace_values (λ all. event.Reallocate all.0.0 all.0.1 all.1) (both (pair_in old new) (address_in size))
 reallocation_in _ = Err Syntax
 
 -- The event of a name and one number below 2^64, from its values.
 abbrev pub single_in : (make : ℕ → Event) → (values : List (List ℕ)) → Result Event Refusal
-single_in make (number ∷ []) = with_values make (address_in number)
+single_in make (number ∷ []) = with_trace_values make (address_in number)
 single_in make _ = Err Syntax
 
 -- The event of `s`, which has no values.

@@ -4,8 +4,8 @@ ghost use Rattle.cc_formats.specs.Heaptrack.{
   heaptrack_in,
   hexadecimal_in,
   is_told,
-  object_in,
-  place_in,
+  heaptrack_object,
+  heaptrack_place,
   second_of,
   told_in,
   values_in,
@@ -78,7 +78,7 @@ fn read_values(sign: u8, values: &[u8]) -> Result<Report, Refusal>
 /// Parses `SIZE TRACE PTR`, and returns the size and the pointer.
 fn read_object(values: &[u8]) -> Result<(u64, u64), Refusal>
     requires { length values.now ≤ 128 }
-    ensures { result ≡ object_in values.now }
+    ensures { result ≡ heaptrack_object values.now }
 {
     let (size, rest) = cut(values, b' ');
     both(read_hexadecimal(size), read_place(rest))
@@ -87,7 +87,7 @@ fn read_object(values: &[u8]) -> Result<(u64, u64), Refusal>
 /// Parses `TRACE PTR`, and returns the pointer.
 fn read_place(values: &[u8]) -> Result<u64, Refusal>
     requires { length values.now ≤ 128 }
-    ensures { result ≡ place_in values.now }
+    ensures { result ≡ heaptrack_place values.now }
 {
     let (trace, pointer) = cut(values, b' ');
     second_of(both(read_hexadecimal(trace), read_hexadecimal(pointer)))

@@ -8,7 +8,7 @@ ghost use Rattle.cc_formats.specs.Ltrace.{
   free_in,
   ltrace_in,
   malloc_in,
-  name_of,
+  ltrace_name,
   product_in,
   product_of,
   realloc_in,
@@ -49,7 +49,7 @@ pub fn read_ltrace(line: &[u8]) -> Result<Report, Refusal>
 
 /// Returns the name of a function in the bytes before its arguments.
 fn name_of(head: &[u8]) -> &[u8]
-    ensures { result.now ≡ name_of head.now }
+    ensures { result.now ≡ ltrace_name head.now }
 {
     after_or_all(after_or_all(head, b'>'), b' ')
 }

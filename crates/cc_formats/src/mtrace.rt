@@ -1,6 +1,6 @@
 //! The lines that `mtrace` of the GNU C library writes.
 ghost use Rattle.std.specs.Prelude.{◌≡◌, take};
-ghost use Rattle.cc_formats.specs.Mtrace.{after_caller, called_in, mtrace_in, operation_in, spaced_in};
+ghost use Rattle.cc_formats.specs.Mtrace.{after_caller, called_in, mtrace_in, mtrace_operation, spaced_in};
 ghost use Rattle.cc_formats.specs.Reports.{object_in, pointer_in};
 
 use crate::cutting::cut;
@@ -60,7 +60,7 @@ fn read_spaced(text: &[u8]) -> Result<Report, Refusal>
 
 /// Parses an operation.
 fn read_operation(text: &[u8]) -> Result<Report, Refusal>
-    ensures { result ≡ operation_in text.now }
+    ensures { result ≡ mtrace_operation text.now }
 {
     match text {
         [b'+', b' ', values @ ..] => {

@@ -21,7 +21,7 @@ use Rattle.cc_heap.specs.declared.object.Object.{Object}
 use Rattle.cc_heap.specs.declared.settings.Settings.{Settings}
 use Rattle.cc_heap.specs.declared.totals.Totals.{Totals}
 use Rattle.cc_heap.specs.declared.usage.Usage.{Usage}
-use Rattle.cc_heap.specs.Memory.{IsExact, IsExactEntry, IsSound, Memory, ShareNoByte, held_spans, span_of, start_unit, usage_of}
+use Rattle.cc_heap.specs.Memory.{IsExact, IsExactEntry, IsSoundMemory, Memory, ShareNoByte, memory_spans, object_span, start_unit, usage_of}
 use Rattle.cc_heap.specs.Heap.{Heap}
 use Rattle.cc_heap.specs.HeapState.{HoldsSpans, IsHeap, IsRoomFor}
 use Rattle.cc_heap.proofs.PlaceLemmas.{IsFound, found, no_room}
@@ -36,7 +36,7 @@ heap_of settings live waiting totals = record { settings = settings; memory = me
 
 -- what an entry adds to the sums
 abbrev pub length_of_entry : ℕ × Object → ℕ
-length_of_entry entry = length_of (span_of entry)
+length_of_entry entry = length_of (object_span entry)
 
 abbrev pub size_of_entry : ℕ × Object → ℕ
 size_of_entry entry = entry.1.size
@@ -195,26 +195,26 @@ small heap usage capacity placer_limit placer_pool placer_holds kept =
     }
 
 -- as many spans are held as there are live objects and quarantined spans
-pub held_length : (memory : Memory) → length (held_spans memory) ≡ length memory.live + length memory.quarantined
-held_length memory = omega (arith, joined (map span_of memory.live) memory.quarantined, mapped memory.live)
+pub held_length : (memory : Memory) → length (memory_spans memory) ≡ length memory.live + length memory.quarantined
+held_length memory = omega (arith, joined (map object_span memory.live) memory.quarantined, mapped memory.live)
   where
     joined : (xs ys : List Span) → length (xs ++ ys) ≡ length xs + length ys
     joined [] ys = omega arith
     joined (x ∷ xs) ys = let rest = joined xs ys in omega (arith, rest)
 
-    mapped : (es : List (ℕ × Object)) → length (map span_of es) ≡ length es
+    mapped : (es : List (ℕ × Object)) → length (map object_span es) ≡ length es
     mapped [] = refl
     mapped (e ∷ es) = let rest = mapped es in omega (arith, rest)
 
 -- a heap holds no more spans than its limit
 pub few_held : (heap : Heap) (usage : Usage) (capacity placer_limit : ℕ) (pool : Option Span) (holds : List Span → Type 0)
-    → IsHeap heap usage capacity placer_limit pool holds → length (held_spans heap.memory) ≤ heap.settings.limit
+    → IsHeap heap usage capacity placer_limit pool holds → length (memory_spans heap.memory) ≤ heap.settings.limit
 few_held heap usage capacity placer_limit pool holds is = omega (arith, held_length heap.memory, is.at_most)
 
 pub below_limit : (heap : Heap) (usage : Usage) (capacity placer_limit : ℕ) (placer_pool : Option Span)
     (holds : List Span → Type 0) → IsHeap heap usage capacity placer_limit placer_pool holds
     → length heap.memory.live + length heap.memory.quarantined < heap.settings.limit
-    → length (held_spans heap.memory) < placer_limit
+    → length (memory_spans heap.memory) < placer_limit
 below_limit heap usage capacity placer_limit placer_pool holds kept below =
     omega (arith, kept.limit_is, held_length heap.memory)
 
@@ -223,42 +223,42 @@ pub placed : {heap : Heap} {usage : Usage} {capacity placer_limit : ℕ} {placer
     → IsHeap heap usage capacity placer_limit placer_pool holds → (requested size : ℕ) (result : Option Span) (span : Span)
     → ((spans : List Span) → holds spans → IfSome placer_pool (λ pool. IsRoomFor heap.settings.align requested pool spans size result))
     → result ≡ Some span → IsPowerOfTwo requested → 0 < size → size < 2 ^ 64
-    → IsFound heap.settings.align heap.settings.pool (held_spans heap.memory) requested size span
+    → IsFound heap.settings.align heap.settings.pool (memory_spans heap.memory) requested size span
 placed {heap} {usage} {capacity} {placer_limit} {placer_pool} {holds} kept requested size result span finds is power some fits =
-    found placer_pool heap.settings.align heap.settings.pool (held_spans heap.memory) requested size result span kept.pool_is kept.is_pool is
-    (finds (held_spans heap.memory) (kept.held_is (held_spans heap.memory) (IsPermutation-refl (held_spans heap.memory)))) power some fits
+    found placer_pool heap.settings.align heap.settings.pool (memory_spans heap.memory) requested size result span kept.pool_is kept.is_pool is
+    (finds (memory_spans heap.memory) (kept.held_is (memory_spans heap.memory) (IsPermutation-refl (memory_spans heap.memory)))) power some fits
 
 -- and none
 pub unplaced : {heap : Heap} {usage : Usage} {capacity placer_limit : ℕ} {placer_pool : Option Span} {holds : List Span → Type 0}
     → IsHeap heap usage capacity placer_limit placer_pool holds → (requested size : ℕ) (result : Option Span)
     → ((spans : List Span) → holds spans → IfSome placer_pool (λ pool. IsRoomFor heap.settings.align requested pool spans size result))
     → result ≡ None
-    → HasNoPlace heap.settings.pool (held_spans heap.memory) (padded_size_for heap.settings.align size) (start_unit heap.settings.align requested size)
+    → HasNoPlace heap.settings.pool (memory_spans heap.memory) (padded_size_for heap.settings.align size) (start_unit heap.settings.align requested size)
 unplaced {heap} {usage} {capacity} {placer_limit} {placer_pool} {holds} kept requested size result finds is =
-    no_room placer_pool heap.settings.align heap.settings.pool (held_spans heap.memory) requested size result kept.pool_is is
-    (finds (held_spans heap.memory) (kept.held_is (held_spans heap.memory) (IsPermutation-refl (held_spans heap.memory))))
+    no_room placer_pool heap.settings.align heap.settings.pool (memory_spans heap.memory) requested size result kept.pool_is is
+    (finds (memory_spans heap.memory) (kept.held_is (memory_spans heap.memory) (IsPermutation-refl (memory_spans heap.memory))))
 
 -- ---- what a memory is except for its ids
 
 pub record IsFit (align : Align) (memory : Memory) : Type 0 where
   pub exact : All (IsExactEntry align) memory.live
   pub spans : All IsSpan memory.quarantined
-  pub apart : ShareNoByte (held_spans memory)
+  pub apart : ShareNoByte (memory_spans memory)
 
-pub fit : (align : Align) (memory : Memory) → IsSound align memory → IsFit align memory
+pub fit : (align : Align) (memory : Memory) → IsSoundMemory align memory → IsFit align memory
 fit align memory sound = record { exact = sound.exact; spans = sound.spans; apart = sound.apart }
 
 pub fit_made : (align : Align) (live more : List (ℕ × Object)) (waiting : List Span) (id : ℕ) (object : Object)
     → IsFit align (memory_of live waiting) → IsExact align object
-    → IsApartFrom (map span_of live ++ waiting) object.span
+    → IsApartFrom (map object_span live ++ waiting) object.span
     → IsPermutation ((id, object) ∷ live) more → IsFit align (memory_of more waiting)
 fit_made align live more waiting id object kept exact apart adds = record {
   exact = All-permutation (IsExactEntry align) ((id, object) ∷ live) more adds
       (All-cons (IsExactEntry align) (id, object) live exact kept.exact);
   spans = kept.spans;
-  apart = once_along (object.span ∷ (map span_of live ++ waiting)) (map span_of more ++ waiting)
+  apart = once_along (object.span ∷ (map object_span live ++ waiting)) (map object_span more ++ waiting)
       (held_made (id, object) live more waiting adds)
-      (once_more (map span_of live ++ waiting) object.span kept.apart apart);
+      (once_more (map object_span live ++ waiting) object.span kept.apart apart);
 }
 
 pub fit_retired : (align : Align) (live fewer : List (ℕ × Object)) (waiting : List Span) (id : ℕ) (object : Object)
@@ -270,7 +270,7 @@ fit_retired align live fewer waiting id object kept takes =
     record {
       exact = All-tail (IsExactEntry align) (id, object) fewer all;
       spans = All-push IsSpan waiting object.span kept.spans first.bounds.is_span;
-      apart = once_along (map span_of live ++ waiting) (map span_of fewer ++ (waiting ++ object.span ∷ []))
+      apart = once_along (map object_span live ++ waiting) (map object_span fewer ++ (waiting ++ object.span ∷ []))
           (held_retired (id, object) live fewer waiting takes) kept.apart;
     }
 
@@ -284,9 +284,9 @@ fit_released align live waiting fewer span kept is =
       spans = λ k d within.
           subst IsSpan (get_or_append_left fewer (span ∷ []) d k within)
           (was.spans k d (omega (arith, within, length_push fewer span)));
-      apart = once_fewer (map span_of live ++ fewer) span
-          (once_along (map span_of live ++ (fewer ++ span ∷ [])) (span ∷ (map span_of live ++ fewer))
-          (held_swept (map span_of live) fewer span) was.apart);
+      apart = once_fewer (map object_span live ++ fewer) span
+          (once_along (map object_span live ++ (fewer ++ span ∷ [])) (span ∷ (map object_span live ++ fewer))
+          (held_swept (map object_span live) fewer span) was.apart);
     }
 
 -- ---- what a heap keeps
@@ -295,8 +295,8 @@ pub kept_made : (settings : Settings) (totals new_totals : Totals) (live more : 
     (waiting new_waiting : List Span) (usage new_usage : Usage) (capacity new_capacity placer_limit new_limit : ℕ)
     (placer_pool new_pool : Option Span) (holds new_holds : List Span → Type 0) (id : ℕ) (object : Object)
     → IsHeap (heap_of settings live waiting totals) usage capacity placer_limit placer_pool holds
-    → IsFound settings.align settings.pool (map span_of live ++ waiting) object.align object.size object.span
-    → ((others : List Span) → AddsSpan (map span_of live ++ waiting) object.span others → new_holds others) → length live + length waiting < settings.limit
+    → IsFound settings.align settings.pool (map object_span live ++ waiting) object.align object.size object.span
+    → ((others : List Span) → AddsSpan (map object_span live ++ waiting) object.span others → new_holds others) → length live + length waiting < settings.limit
     → IsPermutation ((id, object) ∷ live) more → IsDistinct nat_eq (keys_of more)
     → new_usage ≡ usage_with usage object → length waiting + (length live + 1) ≤ new_capacity
     → new_limit ≡ placer_limit → new_pool ≡ placer_pool → new_waiting ≡ waiting
@@ -319,7 +319,7 @@ kept_made settings totals new_totals live more waiting new_waiting usage new_usa
       limit_is = limit_is ∙ kept.limit_is;
       pool_is = pool_is ∙ kept.pool_is;
       held_is = λ others same.
-          adds others (IsPermutation-trans (object.span ∷ (map span_of live ++ waiting)) (map span_of more ++ waiting)
+          adds others (IsPermutation-trans (object.span ∷ (map object_span live ++ waiting)) (map object_span more ++ waiting)
           others (held_made (id, object) live more waiting more_is) same);
     })
 
@@ -348,8 +348,8 @@ kept_retired settings totals new_totals live fewer waiting new_waiting usage new
       limit_is = kept.limit_is;
       pool_is = kept.pool_is;
       held_is = λ others same.
-          kept.held_is others (IsPermutation-trans (map span_of live ++ waiting)
-          (map span_of fewer ++ (waiting ++ object.span ∷ [])) others
+          kept.held_is others (IsPermutation-trans (map object_span live ++ waiting)
+          (map object_span fewer ++ (waiting ++ object.span ∷ [])) others
           (held_retired (id, object) live fewer waiting takes) same);
     })
 
@@ -359,8 +359,8 @@ pub kept_replaced : (settings : Settings) (totals new_totals : Totals) (live mor
     (capacity new_capacity placer_limit new_limit : ℕ) (placer_pool new_pool : Option Span) (holds new_holds : List Span → Type 0)
     (id : ℕ) (object before : Object)
     → IsHeap (heap_of settings live waiting totals) usage capacity placer_limit placer_pool holds
-    → IsFound settings.align settings.pool (map span_of live ++ waiting) object.align object.size object.span
-    → ((others : List Span) → AddsSpan (map span_of live ++ waiting) object.span others → new_holds others) → length live + length waiting < settings.limit
+    → IsFound settings.align settings.pool (map object_span live ++ waiting) object.align object.size object.span
+    → ((others : List Span) → AddsSpan (map object_span live ++ waiting) object.span others → new_holds others) → length live + length waiting < settings.limit
     → IsPermutation ((id, object) ∷ live) ((id, before) ∷ more) → IsDistinct nat_eq (keys_of more)
     → between ≡ usage_with usage object → new_usage ≡ usage_without between before
     → length waiting + (length live + 1) ≤ new_capacity
@@ -390,8 +390,8 @@ kept_replaced settings totals new_totals live more waiting new_waiting usage bet
       limit_is = limit_is ∙ kept.limit_is;
       pool_is = pool_is ∙ kept.pool_is;
       held_is = λ others same.
-          adds others (IsPermutation-trans (object.span ∷ (map span_of live ++ waiting))
-          (map span_of more ++ (waiting ++ before.span ∷ [])) others
+          adds others (IsPermutation-trans (object.span ∷ (map object_span live ++ waiting))
+          (map object_span more ++ (waiting ++ before.span ∷ [])) others
           (held_retired (id, before) entries more waiting takes) same);
     })
 
@@ -418,7 +418,7 @@ kept_swapped settings totals new_totals live more waiting usage new_usage capaci
         exact = All-tail (IsExactEntry settings.align) (from, before) more all;
         spans = kept.sound.spans;
         ids = distinct;
-        apart = once_along (map span_of live ++ waiting) (map span_of more ++ waiting) along kept.sound.apart;
+        apart = once_along (map object_span live ++ waiting) (map object_span more ++ waiting) along kept.sound.apart;
       };
       usage_is = usage_swapped live more waiting from to before object usage new_usage kept.usage_is usage_is counted same swaps;
       reserved = omega (arith, as_many, kept.reserved);
@@ -429,7 +429,7 @@ kept_swapped settings totals new_totals live more waiting usage new_usage capaci
       limit_is = kept.limit_is;
       pool_is = kept.pool_is;
       held_is = λ spans rest.
-          kept.held_is spans (IsPermutation-trans (map span_of live ++ waiting) (map span_of more ++ waiting) spans along rest);
+          kept.held_is spans (IsPermutation-trans (map object_span live ++ waiting) (map object_span more ++ waiting) spans along rest);
     }
 
 -- the object that is freed is one of the live ones
@@ -476,17 +476,17 @@ pub record IsLast (usage : Usage) (spans : List Span) (span : Span) : Type 0 whe
 pub last_quarantined : (settings : Settings) (totals : Totals) (live : List (ℕ × Object)) (waiting fewer : List Span)
     (usage : Usage) (capacity placer_limit : ℕ) (placer_pool : Option Span) (holds : List Span → Type 0) (span : Span)
     → IsHeap (heap_of settings live waiting totals) usage capacity placer_limit placer_pool holds
-    → waiting ≡ fewer ++ span ∷ [] → IsLast usage (map span_of live ++ waiting) span
+    → waiting ≡ fewer ++ span ∷ [] → IsLast usage (map object_span live ++ waiting) span
 last_quarantined settings totals live waiting fewer usage capacity placer_limit placer_pool holds span kept is =
     let all : All IsSpan (fewer ++ span ∷ []) = subst (λ (w : List Span). All IsSpan w) is kept.sound.spans in
     let sums : sum_by length_of waiting ≡ sum_by length_of (fewer ++ span ∷ []) =
     ap (λ (w : List Span). sum_by length_of w) is in
-    let held : Contains (map span_of live ++ (fewer ++ span ∷ [])) span =
-    Contains-permutation (span ∷ (map span_of live ++ fewer)) (map span_of live ++ (fewer ++ span ∷ [])) span
-    (IsPermutation-sym (map span_of live ++ (fewer ++ span ∷ [])) (span ∷ (map span_of live ++ fewer))
-    (held_swept (map span_of live) fewer span)) (0, omega arith, refl) in
+    let held : Contains (map object_span live ++ (fewer ++ span ∷ [])) span =
+    Contains-permutation (span ∷ (map object_span live ++ fewer)) (map object_span live ++ (fewer ++ span ∷ [])) span
+    (IsPermutation-sym (map object_span live ++ (fewer ++ span ∷ [])) (span ∷ (map object_span live ++ fewer))
+    (held_swept (map object_span live) fewer span)) (0, omega arith, refl) in
     record {
-      is_held = subst (λ (w : List Span). Contains (map span_of live ++ w) span) (sym is) held;
+      is_held = subst (λ (w : List Span). Contains (map object_span live ++ w) span) (sym is) held;
       is_span = subst IsSpan (get_or_push fewer span span (length fewer) refl)
           (all (length fewer) span (omega (arith, length_push fewer span)));
       counted = omega (arith, ap (λ (u : Usage). u.quarantine) kept.usage_is, sums, sum_by_push length_of fewer span);
@@ -496,7 +496,7 @@ pub kept_released : (settings : Settings) (totals : Totals) (live : List (ℕ ×
     (usage new_usage : Usage) (capacity new_capacity placer_limit new_limit : ℕ) (placer_pool new_pool : Option Span)
     (holds new_holds : List Span → Type 0) (span : Span)
     → IsHeap (heap_of settings live waiting totals) usage capacity placer_limit placer_pool holds
-    → waiting ≡ fewer ++ span ∷ [] → ((others : List Span) → RemovesSpan (map span_of live ++ waiting) span others → new_holds others) → new_usage ≡ usage_less usage (length_of span)
+    → waiting ≡ fewer ++ span ∷ [] → ((others : List Span) → RemovesSpan (map object_span live ++ waiting) span others → new_holds others) → new_usage ≡ usage_less usage (length_of span)
     → new_capacity ≡ capacity → new_limit ≡ placer_limit → new_pool ≡ placer_pool
     → IsHeap (heap_of settings live fewer totals) new_usage new_capacity new_limit new_pool new_holds
 kept_released settings totals live waiting fewer usage new_usage capacity new_capacity placer_limit new_limit placer_pool
@@ -505,10 +505,10 @@ kept_released settings totals live waiting fewer usage new_usage capacity new_ca
     let after = fit_released settings.align live waiting fewer span before is in
     let longer = length_push fewer span in
     let count : length waiting ≡ length (fewer ++ span ∷ []) = ap (λ (w : List Span). length w) is in
-    let rest : IsPermutation (span ∷ (map span_of live ++ fewer)) (map span_of live ++ waiting) =
-    subst (λ (w : List Span). IsPermutation (span ∷ (map span_of live ++ fewer)) (map span_of live ++ w)) (sym is)
-    (IsPermutation-sym (map span_of live ++ (fewer ++ span ∷ [])) (span ∷ (map span_of live ++ fewer))
-    (held_swept (map span_of live) fewer span)) in
+    let rest : IsPermutation (span ∷ (map object_span live ++ fewer)) (map object_span live ++ waiting) =
+    subst (λ (w : List Span). IsPermutation (span ∷ (map object_span live ++ fewer)) (map object_span live ++ w)) (sym is)
+    (IsPermutation-sym (map object_span live ++ (fewer ++ span ∷ [])) (span ∷ (map object_span live ++ fewer))
+    (held_swept (map object_span live) fewer span)) in
     record {
       sound = record { exact = after.exact; spans = after.spans; ids = kept.sound.ids; apart = after.apart };
       usage_is = usage_released live waiting fewer span usage new_usage kept.usage_is usage_is is;
@@ -520,9 +520,9 @@ kept_released settings totals live waiting fewer usage new_usage capacity new_ca
       limit_is = limit_is ∙ kept.limit_is;
       pool_is = pool_is ∙ kept.pool_is;
       held_is = λ others same.
-          removes others (IsPermutation-trans (span ∷ others) (span ∷ (map span_of live ++ fewer))
-          (map span_of live ++ waiting) (IsPermutation-cons span others (map span_of live ++ fewer)
-          (IsPermutation-sym (map span_of live ++ fewer) others same)) rest);
+          removes others (IsPermutation-trans (span ∷ others) (span ∷ (map object_span live ++ fewer))
+          (map object_span live ++ waiting) (IsPermutation-cons span others (map object_span live ++ fewer)
+          (IsPermutation-sym (map object_span live ++ fewer) others same)) rest);
     }
 
 -- ---- what the calls of the containers give

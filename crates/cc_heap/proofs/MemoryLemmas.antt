@@ -10,12 +10,12 @@ use Rattle.cc_bounds.specs.Span.{SharesByte}
 use Rattle.cc_placer.specs.Placement.{IsApartFrom}
 use Rattle.cc_placer.proofs.SameSpansLemmas.{permutation_from_sums}
 use Rattle.cc_heap.specs.declared.object.Object.{Object}
-use Rattle.cc_heap.specs.Memory.{ShareNoByte, has_byte, span_of}
+use Rattle.cc_heap.specs.Memory.{ShareNoByte, span_has_byte, object_span}
 
 -- ---- bytes
 
 -- the byte is one of both spans
-both : (byte : ℕ) (one other : Span) → has_byte byte one ≡ true → has_byte byte other ≡ true → SharesByte one other
+both : (byte : ℕ) (one other : Span) → span_has_byte byte one ≡ true → span_has_byte byte other ≡ true → SharesByte one other
 both byte one other in_one in_other = record {
   byte = byte;
   in_one = record { from_base = grind (arith, nat_tests); below_top = grind (arith, nat_tests) };
@@ -27,14 +27,14 @@ contains_later first spans other (k, within, is) = (suc k, omega (arith, within)
 
 -- what a span adds to the count of those that have the byte
 abbrev weight_of : (byte : ℕ) → Span → ℕ
-weight_of byte span = cond (has_byte byte span) 1 0
+weight_of byte span = cond (span_has_byte byte span) 1 0
 
 -- no span has the byte
-none_has : (byte : ℕ) (spans : List Span) → ((other : Span) → Contains spans other → has_byte byte other ≡ false)
-    → count_by (has_byte byte) spans ≡ 0
+none_has : (byte : ℕ) (spans : List Span) → ((other : Span) → Contains spans other → span_has_byte byte other ≡ false)
+    → count_by (span_has_byte byte) spans ≡ 0
 none_has byte [] none = refl
 none_has byte (first ∷ spans) none =
-    let here : has_byte byte first ≡ false = none first (0, omega arith, refl) in
+    let here : span_has_byte byte first ≡ false = none first (0, omega arith, refl) in
     let rest = none_has byte spans (λ other at. none other (contains_later first spans other at)) in
     let weight : weight_of byte first ≡ 0 = rw here refl in
     omega (arith, sum_by-cons (weight_of byte) first spans, rest, weight)
@@ -42,15 +42,15 @@ none_has byte (first ∷ spans) none =
 -- a span that shares no byte with those that share none
 pub once_more : (spans : List Span) (span : Span) → ShareNoByte spans → IsApartFrom spans span
     → ShareNoByte (span ∷ spans)
-once_more spans span once apart byte = by_case (has_byte byte span) refl
+once_more spans span once apart byte = by_case (span_has_byte byte span) refl
   where
-    by_case : (b : Bool) → has_byte byte span ≡ b → count_by (has_byte byte) (span ∷ spans) ≤ 1
+    by_case : (b : Bool) → span_has_byte byte span ≡ b → count_by (span_has_byte byte) (span ∷ spans) ≤ 1
     by_case true is =
         let weight : weight_of byte span ≡ 1 = rw is refl in
-        let none = none_has byte spans (λ other at. not_both other at (has_byte byte other) refl) in
+        let none = none_has byte spans (λ other at. not_both other at (span_has_byte byte other) refl) in
         omega (arith, sum_by-cons (weight_of byte) span spans, none, weight)
       where
-        not_both : (other : Span) → Contains spans other → (b : Bool) → has_byte byte other ≡ b → has_byte byte other ≡ false
+        not_both : (other : Span) → Contains spans other → (b : Bool) → span_has_byte byte other ≡ b → span_has_byte byte other ≡ false
         not_both other at true has = absurd (apart other at (both byte span other is has))
         not_both other at false has = has
     by_case false is =
@@ -79,21 +79,21 @@ append_assoc (x ∷ xs) ys zs = ap (λ (l : List Span). x ∷ l) (append_assoc x
 -- the spans of entries and those that wait, with one entry more
 pub held_made : (entry : ℕ × Object) (live more : List (ℕ × Object)) (waiting : List Span)
     → IsPermutation (entry ∷ live) more
-    → IsPermutation (span_of entry ∷ (map span_of live ++ waiting)) (map span_of more ++ waiting)
+    → IsPermutation (object_span entry ∷ (map object_span live ++ waiting)) (map object_span more ++ waiting)
 held_made entry live more waiting adds =
-    IsPermutation-append_left waiting (map span_of (entry ∷ live)) (map span_of more)
-    (IsPermutation-map span_of (entry ∷ live) more adds)
+    IsPermutation-append_left waiting (map object_span (entry ∷ live)) (map object_span more)
+    (IsPermutation-map object_span (entry ∷ live) more adds)
 
 -- with one entry's span among those that wait
 pub held_retired : (entry : ℕ × Object) (live fewer : List (ℕ × Object)) (waiting : List Span)
     → IsPermutation live (entry ∷ fewer)
-    → IsPermutation (map span_of live ++ waiting) (map span_of fewer ++ (waiting ++ span_of entry ∷ []))
+    → IsPermutation (map object_span live ++ waiting) (map object_span fewer ++ (waiting ++ object_span entry ∷ []))
 held_retired entry live fewer waiting takes =
-    let one : IsPermutation (map span_of live ++ waiting) (span_of entry ∷ (map span_of fewer ++ waiting)) =
-    IsPermutation-append_left waiting (map span_of live) (map span_of (entry ∷ fewer))
-    (IsPermutation-map span_of live (entry ∷ fewer) takes) in
-    IsPermutation-trans (map span_of live ++ waiting) (span_of entry ∷ (map span_of fewer ++ waiting))
-    (map span_of fewer ++ (waiting ++ span_of entry ∷ [])) one (last_first (map span_of fewer) waiting (span_of entry))
+    let one : IsPermutation (map object_span live ++ waiting) (object_span entry ∷ (map object_span fewer ++ waiting)) =
+    IsPermutation-append_left waiting (map object_span live) (map object_span (entry ∷ fewer))
+    (IsPermutation-map object_span live (entry ∷ fewer) takes) in
+    IsPermutation-trans (map object_span live ++ waiting) (object_span entry ∷ (map object_span fewer ++ waiting))
+    (map object_span fewer ++ (waiting ++ object_span entry ∷ [])) one (last_first (map object_span fewer) waiting (object_span entry))
   where
     last_first : (xs ys : List Span) (span : Span) → IsPermutation (span ∷ (xs ++ ys)) (xs ++ (ys ++ span ∷ []))
     last_first xs ys span =
@@ -118,21 +118,21 @@ held_swept xs ys span =
 
 -- with an entry for another that has the same span
 pub held_swapped : (entry before : ℕ × Object) (live more : List (ℕ × Object)) (waiting : List Span)
-    → IsPermutation (entry ∷ live) (before ∷ more) → span_of entry ≡ span_of before
-    → IsPermutation (map span_of live ++ waiting) (map span_of more ++ waiting)
+    → IsPermutation (entry ∷ live) (before ∷ more) → object_span entry ≡ object_span before
+    → IsPermutation (map object_span live ++ waiting) (map object_span more ++ waiting)
 held_swapped entry before live more waiting swaps same =
-    permutation_from_sums (map span_of live ++ waiting) (map span_of more ++ waiting) (λ weight.
-    let sums : sum_by weight (map span_of (before ∷ more)) ≡ sum_by weight (map span_of (entry ∷ live)) =
-    sum_by-IsPermutation weight (map span_of (entry ∷ live)) (map span_of (before ∷ more))
-    (IsPermutation-map span_of (entry ∷ live) (before ∷ more) swaps) in
+    permutation_from_sums (map object_span live ++ waiting) (map object_span more ++ waiting) (λ weight.
+    let sums : sum_by weight (map object_span (before ∷ more)) ≡ sum_by weight (map object_span (entry ∷ live)) =
+    sum_by-IsPermutation weight (map object_span (entry ∷ live)) (map object_span (before ∷ more))
+    (IsPermutation-map object_span (entry ∷ live) (before ∷ more) swaps) in
     omega (
       arith,
       sums,
       ap weight same,
-      sum_by-cons weight (span_of entry) (map span_of live),
-      sum_by-cons weight (span_of before) (map span_of more),
-      sum_by-append weight (map span_of live) waiting,
-      sum_by-append weight (map span_of more) waiting,
+      sum_by-cons weight (object_span entry) (map object_span live),
+      sum_by-cons weight (object_span before) (map object_span more),
+      sum_by-append weight (map object_span live) waiting,
+      sum_by-append weight (map object_span more) waiting,
     ))
 
 -- ---- entries under ids

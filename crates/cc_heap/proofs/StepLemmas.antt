@@ -14,11 +14,11 @@ use Rattle.cc_heap.specs.declared.settings.Settings.{Settings}
 use Rattle.cc_heap.specs.declared.totals.Totals.{Totals}
 use Rattle.cc_heap.specs.declared.usage.Usage.{Usage}
 use Rattle.cc_heap.specs.Totals.{with_made, with_usage}
-use Rattle.cc_heap.specs.Memory.{object_at, span_of, usage_of}
+use Rattle.cc_heap.specs.Memory.{memory_object, object_span, usage_of}
 use Rattle.cc_heap.specs.Policy.{is_immediate}
 use Rattle.cc_heap.specs.Reallocation.{can_take}
-use Rattle.cc_heap.specs.Heap.{Attempts, FreesObject, Heap, KeepsObject, MakesObject, is_made, object_under, quarantined_with, resized, swept}
-use Rattle.cc_heap.specs.Events.{AttemptsToReplace, ClearsOther, FailsToReallocate, FollowsPolicy, Frees, FreesIfLive, HasNoRoom, Replaces, Tries, TriesToReplace}
+use Rattle.cc_heap.specs.Heap.{Attempts, FreesHeapObject, Heap, KeepsHeapObject, MakesHeapObject, is_made, object_under, quarantined_with, resized, swept_heap}
+use Rattle.cc_heap.specs.Events.{AttemptsToReplace, ClearsOther, FailsToReallocate, FollowsPolicy, FreesInHeap, FreesIfLive, HasNoRoomInHeap, Replaces, Tries, TriesToReplace}
 use Rattle.cc_heap.specs.HeapState.{IsQuarantined, IsReplaced, PutsOver, QuarantinesLive, ReleasesLast, Settles}
 use Rattle.cc_heap.proofs.PlaceLemmas.{IsFound}
 use Rattle.cc_heap.proofs.HeapLemmas.{heap_of, held_length, memory_of}
@@ -29,21 +29,21 @@ pub makes : (old new : Heap) (settings : Settings) (totals new_totals : Totals) 
     (waiting new_waiting : List Span) (usage : Usage) (id : ℕ) (object : Object)
     → heap_of settings live waiting totals ≡ old → heap_of settings more new_waiting new_totals ≡ new
     → length live + length waiting < settings.limit
-    → IsFound settings.align settings.pool (map span_of live ++ waiting) object.align object.size object.span
+    → IsFound settings.align settings.pool (map object_span live ++ waiting) object.align object.size object.span
     → IsPermutation ((id, object) ∷ live) more → new_waiting ≡ waiting → usage ≡ usage_of (memory_of more waiting)
     → new_totals ≡ with_made totals object (object.span.top - settings.pool.base) usage
-    → MakesObject old id object.align object.size new
+    → MakesHeapObject old id object.align object.size new
 makes old new settings totals new_totals live more waiting new_waiting usage id object old_is new_is below found adds waiting_is
     usage_is totals_is =
-    let at : object ≡ object_at settings.align object.align object.span.base object.size =
+    let at : object ≡ memory_object settings.align object.align object.span.base object.size =
     λ i. record {
       size = object.size;
       align = object.align;
       span = record { base = object.span.base; top = found.top i };
     } in
     let counted : with_made totals object (object.span.top - settings.pool.base) usage
-    ≡ with_made totals (object_at settings.align object.align object.span.base object.size)
-    ((object_at settings.align object.align object.span.base object.size).span.top - settings.pool.base)
+    ≡ with_made totals (memory_object settings.align object.align object.span.base object.size)
+    ((memory_object settings.align object.align object.span.base object.size).span.top - settings.pool.base)
     (usage_of (memory_of more waiting)) =
     λ i. with_made totals (at i) ((at i).span.top - settings.pool.base) (usage_is i) in
     rw (← old_is) (record {
@@ -73,7 +73,7 @@ quarantines old settings totals live fewer waiting new_waiting id object result 
 pub replaced : (old : Heap) (settings : Settings) (totals new_totals : Totals) (live more : List (ℕ × Object))
     (waiting new_waiting : List Span) (usage : Usage) (id : ℕ) (before object : Object) (result : Option Object)
     → heap_of settings live waiting totals ≡ old → length live + length waiting < settings.limit
-    → IsFound settings.align settings.pool (map span_of live ++ waiting) object.align object.size object.span
+    → IsFound settings.align settings.pool (map object_span live ++ waiting) object.align object.size object.span
     → result ≡ lookup (nat_eq id) live → result ≡ Some before
     → IsPermutation ((id, object) ∷ live) ((id, before) ∷ more) → new_waiting ≡ waiting ++ before.span ∷ []
     → usage ≡ usage_of (memory_of ((id, object) ∷ live) waiting)
@@ -138,7 +138,7 @@ settles_kept old new kept new_is spans span was =
     ∙ ap (λ (w : List Span). counted_state (heap_of old.settings old.memory.live w old.totals)) (was ∙ sym left)
 
 pub frees_object : (old between new : Heap) (id : ℕ) (object : Object) → IsQuarantined old id object between
-    → Settles between new → FreesObject old id object new
+    → Settles between new → FreesHeapObject old id object new
 frees_object old between new id object quarantined settles =
     let after : Settles (heap_of old.settings quarantined.live (old.memory.quarantined ++ object.span ∷ []) old.totals) new =
     subst (λ (h : Heap). Settles h new) quarantined.is_new settles in
@@ -149,7 +149,7 @@ frees_object old between new id object quarantined settles =
     }
 
 pub frees : (old between settled new : Heap) (id : ℕ) → QuarantinesLive old id between → Settles between settled
-    → FollowsPolicy settled new → Frees old id new
+    → FollowsPolicy settled new → FreesInHeap old id new
 frees old between settled new id quarantined settles follows = record {
   object = quarantined.object;
   is_live = quarantined.is_live;
@@ -175,7 +175,7 @@ pub keeps : (old : Heap) (settings : Settings) (totals new_totals : Totals) (liv
     → can_take settings.align requested size before.span ≡ true
     → IsPermutation ((to, resized before requested size) ∷ live) ((from, before) ∷ more)
     → usage ≡ usage_of (memory_of more waiting) → new_totals ≡ with_usage totals usage
-    → KeepsObject old from to before requested size (heap_of settings more waiting new_totals)
+    → KeepsHeapObject old from to before requested size (heap_of settings more waiting new_totals)
 keeps old settings totals new_totals live more waiting usage from to before requested size old_is is_live fits swaps usage_is
     totals_is =
     rw (← old_is) (record {
@@ -209,7 +209,7 @@ tries_first old new id requested size Full is attempts = absurd (never false is 
 
 -- an attempt that failed: why, and that nothing changed
 pub record IsRefused (old : Heap) (requested size : ℕ) (new : Heap) : Type 0 where
-  pub why : HasNoRoom old requested size
+  pub why : HasNoRoomInHeap old requested size
   pub same : new ≡ old
 
 refused : (old new : Heap) (id requested size : ℕ) (making : Making) → is_made making ≡ false
@@ -220,13 +220,13 @@ refused old new id requested size Full not (many, same) = record { why = inr man
 
 pub tries_again : {E : Type 0} (old between after new : Heap) (id requested size : ℕ) (first : Making)
     (result : Result Making E) → is_made first ≡ false → Attempts old id requested size first between
-    → after ≡ swept between → IfOk result (λ making. Attempts after id requested size making new)
+    → after ≡ swept_heap between → IfOk result (λ making. Attempts after id requested size making new)
     → IfOk result (λ making. Tries old id requested size making new)
 tries_again old between after new id requested size first (Ok making) not attempts after_is again =
     let is = refused old between id requested size first not attempts in
     inr (
       is.why,
-      subst (λ (h : Heap). Attempts h id requested size making new) (after_is ∙ ap (λ (h : Heap). swept h) is.same) again,
+      subst (λ (h : Heap). Attempts h id requested size making new) (after_is ∙ ap (λ (h : Heap). swept_heap h) is.same) again,
     )
 tries_again old between after new id requested size first (Err error) not attempts after_is again = tt
 
@@ -244,14 +244,14 @@ not_replaced old new id requested size Full not (many, same) = record { why = in
 
 pub replaces_again : {E : Type 0} (old between after new : Heap) (id requested size : ℕ) (first : Making)
     (result : Result Making E) → is_made first ≡ false → AttemptsToReplace old id requested size first between
-    → after ≡ swept between → IfOk result (λ making. AttemptsToReplace after id requested size making new)
+    → after ≡ swept_heap between → IfOk result (λ making. AttemptsToReplace after id requested size making new)
     → IfOk result (λ making. TriesToReplace old id requested size making new)
 replaces_again old between after new id requested size first (Ok making) not attempts after_is again =
     let is = not_replaced old between id requested size first not attempts in
     inr (
       is.why,
       subst (λ (h : Heap). AttemptsToReplace h id requested size making new)
-          (after_is ∙ ap (λ (h : Heap). swept h) is.same) again,
+          (after_is ∙ ap (λ (h : Heap). swept_heap h) is.same) again,
     )
 replaces_again old between after new id requested size first (Err error) not attempts after_is again = tt
 
@@ -274,7 +274,7 @@ put_refused old new id requested size Full not puts = puts
 
 -- a free of an id that is live
 pub freed_live : (old new : Heap) (id : ℕ) (is_live : Bool) → FreesIfLive old id is_live new
-    → IsSome (object_under old id) → Frees old id new
+    → IsSome (object_under old id) → FreesInHeap old id new
 freed_live old new id true frees live = frees
 freed_live old new id false (none, same) live = absurd (never (is_some (object_under old id)) live none)
 

@@ -12,9 +12,9 @@ use Rattle.cc_heap.specs.declared.making.Making.TheVariants.{Made}
 use Rattle.cc_heap.specs.declared.object.Object.{Object}
 use Rattle.cc_heap.specs.declared.outcome.Outcome.{Outcome}
 use Rattle.cc_placer.specs.Align.{padded_size_for}
-use Rattle.cc_heap.specs.Memory.{held_spans, start_unit}
+use Rattle.cc_heap.specs.Memory.{memory_spans, start_unit}
 use Rattle.cc_heap.specs.Policy.{is_of_the_trace}
-use Rattle.cc_heap.specs.Heap.{Attempts, FreesObject, Heap, KeepsObject, MakesObject, MustSweep, kept_object, object_under, swept}
+use Rattle.cc_heap.specs.Heap.{Attempts, FreesHeapObject, Heap, KeepsHeapObject, MakesHeapObject, MustSweep, kept_object, object_under, swept_heap}
 
 -- The size of an object: a requested size of 0 is treated as 1.
 abbrev pub size_of : (requested : ℕ) → ℕ
@@ -29,40 +29,40 @@ outcome_of was_live unknown making =
 
 -- FollowsPolicy holds if the quarantine is swept if the policy sweeps, and otherwise nothing changes.
 abbrev pub FollowsPolicy : Heap → Heap → Type 0
-FollowsPolicy old new = (MustSweep old × (new ≡ swept old)) ⊎ ((¬ MustSweep old) × (new ≡ old))
+FollowsPolicy old new = (MustSweep old × (new ≡ swept_heap old)) ⊎ ((¬ MustSweep old) × (new ≡ old))
 
--- Frees holds if the object that is live under the id is freed, and then the policy is followed.
-pub record Frees (old : Heap) (id : ℕ) (new : Heap) : Type 0 where
+-- FreesInHeap holds if the object that is live under the id is freed, and then the policy is followed.
+pub record FreesInHeap (old : Heap) (id : ℕ) (new : Heap) : Type 0 where
   pub object : Object
   pub is_live : object_under old id ≡ Some object
   pub freed : Heap
-  pub frees : FreesObject old id object freed
+  pub frees : FreesHeapObject old id object freed
   pub follows : FollowsPolicy freed new
 
 -- FreesIfLive holds if the id is live and its object is freed, or it is not live and nothing changes.
 abbrev pub FreesIfLive : Heap → (id : ℕ) → (is_live : Bool) → Heap → Type 0
-FreesIfLive old id true new = Frees old id new
+FreesIfLive old id true new = FreesInHeap old id new
 FreesIfLive old id false new = IsNone (object_under old id) × (new ≡ old)
 
 -- ---- An object is made.
 
--- HasNoRoom holds if an object of this size and requested alignment cannot be made: there is no place
+-- HasNoRoomInHeap holds if an object of this size and requested alignment cannot be made: there is no place
 -- for it, or as many spans are held as the limit allows.
-abbrev pub HasNoRoom : Heap → (requested size : ℕ) → Type 0
-HasNoRoom heap requested size =
-    HasNoPlace heap.settings.pool (held_spans heap.memory) (padded_size_for heap.settings.align size)
+abbrev pub HasNoRoomInHeap : Heap → (requested size : ℕ) → Type 0
+HasNoRoomInHeap heap requested size =
+    HasNoPlace heap.settings.pool (memory_spans heap.memory) (padded_size_for heap.settings.align size)
     (start_unit heap.settings.align requested size)
-    ⊎ (heap.settings.limit ≤ length (held_spans heap.memory))
+    ⊎ (heap.settings.limit ≤ length (memory_spans heap.memory))
 
 -- Tries holds if an object is made, or otherwise the quarantine is swept once, and the making attempted
 -- again.
 abbrev pub Tries : Heap → (id requested size : ℕ) → Making → Heap → Type 0
 Tries old id requested size making new =
-    ((making ≡ Made) × MakesObject old id requested size new)
-    ⊎ (HasNoRoom old requested size × Attempts (swept old) id requested size making new)
+    ((making ≡ Made) × MakesHeapObject old id requested size new)
+    ⊎ (HasNoRoomInHeap old requested size × Attempts (swept_heap old) id requested size making new)
 
--- Allocates holds if the object under the id is freed, if it is live, and then one is made under it.
-pub record Allocates (old : Heap) (id requested size : ℕ) (outcome : Outcome) (new : Heap) : Type 0 where
+-- AllocatesInHeap holds if the object under the id is freed, if it is live, and then one is made under it.
+pub record AllocatesInHeap (old : Heap) (id requested size : ℕ) (outcome : Outcome) (new : Heap) : Type 0 where
   pub was_live : Bool
   pub cleared : Heap
   pub clears : FreesIfLive old id was_live cleared
@@ -78,8 +78,8 @@ pub record Replaces (old : Heap) (id requested size : ℕ) (new : Heap) : Type 0
   pub before : Object
   pub is_live : object_under old id ≡ Some before
   pub made : Heap
-  pub makes : MakesObject old id requested size made
-  pub frees : FreesObject made id before new
+  pub makes : MakesHeapObject old id requested size made
+  pub frees : FreesHeapObject made id before new
 
 -- AttemptsToReplace holds if the object under the id is replaced, or the new one has no place, and nothing
 -- changes.
@@ -92,13 +92,13 @@ AttemptsToReplace old id requested size making new = Attempts old id requested s
 abbrev pub TriesToReplace : Heap → (id requested size : ℕ) → Making → Heap → Type 0
 TriesToReplace old id requested size making new =
     ((making ≡ Made) × Replaces old id requested size new)
-    ⊎ (HasNoRoom old requested size × AttemptsToReplace (swept old) id requested size making new)
+    ⊎ (HasNoRoomInHeap old requested size × AttemptsToReplace (swept_heap old) id requested size making new)
 
 -- FollowsReplacing holds if the policy is followed once an object is replaced, or the object is freed
 -- nevertheless if it was not.
 abbrev pub FollowsReplacing : Heap → (id : ℕ) → Making → Heap → Type 0
 FollowsReplacing old id Made new = FollowsPolicy old new
-FollowsReplacing old id _ new = Frees old id new
+FollowsReplacing old id _ new = FreesInHeap old id new
 
 -- ReplacesLive holds if an object is made under a live id in place of the one under it.
 pub record ReplacesLive (old : Heap) (id requested size : ℕ) (outcome : Outcome) (new : Heap) : Type 0 where
@@ -112,13 +112,13 @@ pub record ReplacesLive (old : Heap) (id requested size : ℕ) (outcome : Outcom
 -- freed.
 pub record Moves (old : Heap) (from to requested size : ℕ) (outcome : Outcome) (new : Heap) : Type 0 where
   pub made : Heap
-  pub allocates : Allocates old to requested size outcome made
-  pub frees : Frees made from new
+  pub allocates : AllocatesInHeap old to requested size outcome made
+  pub frees : FreesInHeap made from new
 
 -- AllocatesUnknown holds if there is no object to replace, and one is made.
 pub record AllocatesUnknown (old : Heap) (id requested size : ℕ) (outcome : Outcome) (new : Heap) : Type 0 where
   pub told : Outcome
-  pub allocates : Allocates old id requested size told new
+  pub allocates : AllocatesInHeap old id requested size told new
   pub is_told : outcome ≡ record told { unknown = true }
 
 -- Remakes holds if an object is made in place of the one under an id, if that is live.
@@ -140,7 +140,7 @@ pub record KeepsPlace (old : Heap) (from to : ℕ) (object : Object) (requested 
   pub was_live : Bool
   pub cleared : Heap
   pub clears : ClearsOther old from to was_live cleared
-  pub keeps : KeepsObject cleared from to object requested size new
+  pub keeps : KeepsHeapObject cleared from to object requested size new
   pub is_told : outcome ≡ outcome_of was_live false None
 
 -- Reallocates holds if the object under an id keeps its bytes, if it can and shall, and otherwise an object is
@@ -160,14 +160,14 @@ pub record FreesOrNot (old : Heap) (id : ℕ) (outcome : Outcome) (new : Heap) :
 
 -- The heap after an event that requests a sweep: swept if the policy is the trace's.
 abbrev pub swept_if_asked : Heap → Heap
-swept_if_asked heap = if is_of_the_trace heap.settings.policy then swept heap else heap
+swept_if_asked heap = if is_of_the_trace heap.settings.policy then swept_heap heap else heap
 
 -- IsEvent holds if the event turns the heap `old` into `new`, with this outcome.
 abbrev pub IsEvent : Heap → Event → Outcome → Heap → Type 0
 IsEvent old (Allocate id size align) outcome new =
-    Allocates old id align (size_of size) outcome new
+    AllocatesInHeap old id align (size_of size) outcome new
 IsEvent old (Clear id size) outcome new =
-    Allocates old id 1 (size_of size) outcome new
+    AllocatesInHeap old id 1 (size_of size) outcome new
 IsEvent old (Reallocate from to size) outcome new =
     Reallocates old from to 1 (size_of size) outcome new
 IsEvent old (Free id) outcome new = FreesOrNot old id outcome new
@@ -178,7 +178,7 @@ IsEvent old (Clock time) outcome new = (new ≡ old) × (outcome ≡ outcome_of 
 
 -- IsSweptOrNot holds if the quarantine is swept, or nothing changes.
 abbrev pub IsSweptOrNot : Heap → Heap → Type 0
-IsSweptOrNot old new = (new ≡ old) ⊎ (new ≡ swept old)
+IsSweptOrNot old new = (new ≡ old) ⊎ (new ≡ swept_heap old)
 
 -- FailsToMake holds if the object under the id is freed, if it is live, and then the quarantine is swept or
 -- not. No object is made.

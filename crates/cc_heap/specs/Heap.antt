@@ -15,7 +15,7 @@ use Rattle.cc_heap.specs.Policy.{AsksForSweep, Gauge, is_immediate}
 use Rattle.cc_heap.specs.Reallocation.{can_take, is_keep}
 use Rattle.cc_heap.specs.Totals.{with_made, with_sweep, with_usage}
 use Rattle.cc_placer.specs.Align.{padded_size_for}
-use Rattle.cc_heap.specs.Memory.{Memory, held_spans, object_at, start_unit, usage_of}
+use Rattle.cc_heap.specs.Memory.{Memory, memory_spans, memory_object, start_unit, usage_of}
 
 -- A heap: its settings, what it holds, and the numbers of all that it has held.
 pub record Heap : Type 0 where
@@ -55,19 +55,19 @@ object_under heap id = lookup (nat_eq id) heap.memory.live
 
 -- ---- An object is made.
 
--- MakesObject holds if an object of this size and requested alignment is made under an id, at the
+-- MakesHeapObject holds if an object of this size and requested alignment is made under an id, at the
 -- placement of its padded size next to all that is held, while fewer spans are held than the limit.
-pub record MakesObject (old : Heap) (id requested size : ℕ) (new : Heap) : Type 0 where
+pub record MakesHeapObject (old : Heap) (id requested size : ℕ) (new : Heap) : Type 0 where
   pub start : ℕ
   pub live : List (ℕ × Object)
-  pub few : length (held_spans old.memory) < old.settings.limit
+  pub few : length (memory_spans old.memory) < old.settings.limit
   pub placement :
-      IsPlacement old.settings.pool (held_spans old.memory) (padded_size_for old.settings.align size)
+      IsPlacement old.settings.pool (memory_spans old.memory) (padded_size_for old.settings.align size)
       (start_unit old.settings.align requested size) start
-  pub adds : IsPermutation ((id, object_at old.settings.align requested start size) ∷ old.memory.live) live
+  pub adds : IsPermutation ((id, memory_object old.settings.align requested start size) ∷ old.memory.live) live
   pub is_new : new ≡ record old {
     memory = record { live = live; quarantined = old.memory.quarantined };
-    totals = with_made old.totals (object_at old.settings.align requested start size)
+    totals = with_made old.totals (memory_object old.settings.align requested start size)
         (start + padded_size_for old.settings.align size - old.settings.pool.base)
         (usage_of (record { live = live; quarantined = old.memory.quarantined }));
   }
@@ -80,13 +80,13 @@ is_made _ = false
 -- Attempts holds if an object is made, or as many spans are held as may be, or fewer are held and there is
 -- no place for it. In both latter cases nothing changes.
 abbrev pub Attempts : Heap → (id requested size : ℕ) → Making → Heap → Type 0
-Attempts old id requested size Made new = MakesObject old id requested size new
+Attempts old id requested size Made new = MakesHeapObject old id requested size new
 Attempts old id requested size NoRoom new =
-    (length (held_spans old.memory) < old.settings.limit)
-    × HasNoPlace old.settings.pool (held_spans old.memory) (padded_size_for old.settings.align size)
+    (length (memory_spans old.memory) < old.settings.limit)
+    × HasNoPlace old.settings.pool (memory_spans old.memory) (padded_size_for old.settings.align size)
     (start_unit old.settings.align requested size)
     × (new ≡ old)
-Attempts old id requested size Full new = (old.settings.limit ≤ length (held_spans old.memory)) × (new ≡ old)
+Attempts old id requested size Full new = (old.settings.limit ≤ length (memory_spans old.memory)) × (new ≡ old)
 
 -- ---- An object is freed.
 
@@ -94,9 +94,9 @@ Attempts old id requested size Full new = (old.settings.limit ≤ length (held_s
 abbrev pub quarantined_with : Policy → List Span → Span → List Span
 quarantined_with policy spans span = if is_immediate policy then spans else spans ++ span ∷ []
 
--- FreesObject holds if the object under an id is freed: its span is quarantined, and stays held until
+-- FreesHeapObject holds if the object under an id is freed: its span is quarantined, and stays held until
 -- the next sweep, unless there is no quarantine.
-pub record FreesObject (old : Heap) (id : ℕ) (object : Object) (new : Heap) : Type 0 where
+pub record FreesHeapObject (old : Heap) (id : ℕ) (object : Object) (new : Heap) : Type 0 where
   pub live : List (ℕ × Object)
   pub takes : IsPermutation old.memory.live ((id, object) ∷ live)
   pub is_new : new ≡ record old {
@@ -123,9 +123,9 @@ kept_object heap id requested size =
     then option_and_then (λ object. if can_take heap.settings.align requested size object.span then Some object else None) (object_under heap id)
     else None
 
--- KeepsObject holds if the object under `from` keeps its bytes, and has this size and the id `to`. The entries
+-- KeepsHeapObject holds if the object under `from` keeps its bytes, and has this size and the id `to`. The entries
 -- are those before with the new one added and the old one taken away.
-pub record KeepsObject (old : Heap) (from to : ℕ) (before : Object) (requested size : ℕ) (new : Heap) : Type 0 where
+pub record KeepsHeapObject (old : Heap) (from to : ℕ) (before : Object) (requested size : ℕ) (new : Heap) : Type 0 where
   pub is_live : object_under old from ≡ Some before
   pub fits : can_take old.settings.align requested size before.span ≡ true
   pub live : List (ℕ × Object)
@@ -142,8 +142,8 @@ abbrev pub swept_memory : Memory → Memory
 swept_memory memory = record { live = memory.live; quarantined = [] }
 
 -- The heap once all that was quarantined is swept, so that it is no longer held.
-abbrev pub swept : Heap → Heap
-swept heap = record heap {
+abbrev pub swept_heap : Heap → Heap
+swept_heap heap = record heap {
   memory = swept_memory heap.memory;
   totals = with_sweep heap.totals (usage_of heap.memory).quarantine (usage_of (swept_memory heap.memory));
 }

@@ -12,8 +12,8 @@ use Rattle.cc_heap.specs.declared.making.Making.TheVariants.{Made}
 use Rattle.cc_heap.specs.Totals.{with_usage}
 use Rattle.cc_bounds.specs.declared.align.Align.{Align}
 use Rattle.cc_placer.specs.Align.{padded_size_for}
-use Rattle.cc_heap.specs.Memory.{IsSound, held_spans, start_unit, usage_of}
-use Rattle.cc_heap.specs.Heap.{Attempts, Heap, MakesObject, object_under, quarantined_with}
+use Rattle.cc_heap.specs.Memory.{IsSoundMemory, memory_spans, start_unit, usage_of}
+use Rattle.cc_heap.specs.Heap.{Attempts, Heap, MakesHeapObject, object_under, quarantined_with}
 
 -- IsRoomFor holds if the result is the span of an object of `size` bytes at its placement, or none if
 -- there is no place.
@@ -33,7 +33,7 @@ HoldsSpans holds spans = (others : List Span) → HaveSameSpans spans others →
 -- may be holding these lists of spans.
 pub record IsHeap (heap : Heap) (usage : Usage) (capacity placer_limit : ℕ) (placer_pool : Option Span)
     (holds : List Span → Type 0) : Type 0 where
-  pub sound : IsSound heap.settings.align heap.memory
+  pub sound : IsSoundMemory heap.settings.align heap.memory
   pub usage_is : usage ≡ usage_of heap.memory
   pub reserved : length heap.memory.live + length heap.memory.quarantined ≤ capacity
   pub at_most : length heap.memory.live + length heap.memory.quarantined ≤ heap.settings.limit
@@ -42,7 +42,7 @@ pub record IsHeap (heap : Heap) (usage : Usage) (capacity placer_limit : ℕ) (p
   pub high_fits : heap.totals.high ≤ 2 ^ 64
   pub limit_is : placer_limit ≡ heap.settings.limit
   pub pool_is : placer_pool ≡ Some heap.settings.pool
-  pub held_is : HoldsSpans holds (held_spans heap.memory)
+  pub held_is : HoldsSpans holds (memory_spans heap.memory)
 
 -- IsQuarantined holds if the object under the id joined the quarantine, and no state is counted yet.
 pub record IsQuarantined (old : Heap) (id : ℕ) (object : Object) (new : Heap) : Type 0 where
@@ -64,7 +64,7 @@ pub record IsReplaced (old : Heap) (id requested size : ℕ) (new : Heap) : Type
   pub before : Object
   pub is_live : object_under old id ≡ Some before
   pub made : Heap
-  pub makes : MakesObject old id requested size made
+  pub makes : MakesHeapObject old id requested size made
   pub quarantines : IsQuarantined made id before new
 
 -- PutsOver holds if the object under the id is replaced, or the new one has no place, and nothing

@@ -19,8 +19,8 @@ abbrev pub start_unit : Align → (requested size : ℕ) → ℕ
 start_unit align requested size = max (unit_of align size) requested
 
 -- The object of `size` bytes, of a requested alignment, that begins at `start`.
-abbrev pub object_at : Align → (requested start size : ℕ) → Object
-object_at align requested start size = record {
+abbrev pub memory_object : Align → (requested start size : ℕ) → Object
+memory_object align requested start size = record {
   size = size;
   align = requested;
   span = span_from start (padded_size_for align size);
@@ -41,38 +41,38 @@ pub record Memory : Type 0 where
   pub quarantined : List Span
 
 -- The span of the object under an id.
-abbrev pub span_of : ℕ × Object → Span
-span_of entry = entry.1.span
+abbrev pub object_span : ℕ × Object → Span
+object_span entry = entry.1.span
 
 -- The held spans: those of the live objects, and the quarantined ones.
-abbrev pub held_spans : Memory → List Span
-held_spans memory = map span_of memory.live ++ memory.quarantined
+abbrev pub memory_spans : Memory → List Span
+memory_spans memory = map object_span memory.live ++ memory.quarantined
 
 -- The number of live objects and of bytes of a memory.
 abbrev pub usage_of : Memory → Usage
 usage_of memory = record {
   objects = length memory.live;
   asked = sum_by (λ entry. entry.1.size) memory.live;
-  live = sum_by (λ entry. length_of (span_of entry)) memory.live;
+  live = sum_by (λ entry. length_of (object_span entry)) memory.live;
   quarantine = sum_by length_of memory.quarantined;
 }
 
 -- Whether the byte is one of the span's.
-abbrev pub has_byte : (byte : ℕ) → Span → Bool
-has_byte byte span = nat_le span.base byte && nat_lt byte span.top
+abbrev pub span_has_byte : (byte : ℕ) → Span → Bool
+span_has_byte byte span = nat_le span.base byte && nat_lt byte span.top
 
 -- ShareNoByte holds if no byte is in two of the spans.
 abbrev pub ShareNoByte : List Span → Type 0
-ShareNoByte spans = (byte : ℕ) → count_by (has_byte byte) spans ≤ 1
+ShareNoByte spans = (byte : ℕ) → count_by (span_has_byte byte) spans ≤ 1
 
 -- IsExactEntry holds if the object under an id has exact bounds.
 abbrev pub IsExactEntry : Align → ℕ × Object → Type 0
 IsExactEntry align entry = IsExact align entry.1
 
--- IsSound holds if a memory has the properties that each event keeps. Its objects have exact bounds,
+-- IsSoundMemory holds if a memory has the properties that each event keeps. Its objects have exact bounds,
 -- and an id each. Its held spans share no byte.
-pub record IsSound (align : Align) (memory : Memory) : Type 0 where
+pub record IsSoundMemory (align : Align) (memory : Memory) : Type 0 where
   pub exact : All (IsExactEntry align) memory.live
   pub spans : All IsSpan memory.quarantined
   pub ids : IsDistinct nat_eq (keys_of memory.live)
-  pub apart : ShareNoByte (held_spans memory)
+  pub apart : ShareNoByte (memory_spans memory)

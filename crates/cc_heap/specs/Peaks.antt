@@ -2,7 +2,7 @@
 use Rattle.std.specs.Prelude.{◌≡◌, ◌+◌, List}
 use Rattle.cc_heap.specs.declared.totals.Totals.{Totals}
 use Rattle.cc_heap.specs.Heap.{Heap}
-use Rattle.cc_heap.specs.Run.{Moment, Passes, greatest, usage_in}
+use Rattle.cc_heap.specs.Run.{Moment, PassesEvent, greatest, usage_in}
 
 -- The totals with no peaks of bytes.
 abbrev pub totals_without_peaks : Totals → Totals
@@ -16,7 +16,7 @@ without_peaks heap = record heap { totals = totals_without_peaks heap.totals }
 -- bytes is the largest value over these states.
 pub record HasPeaks (old new : Heap) : Type 0 where
   pub moments : List Moment
-  pub passes : Passes (without_peaks old) moments new
+  pub passes : PassesEvent (without_peaks old) moments new
   pub live : new.totals.peak_live ≡ greatest (λ moment. (usage_in moment).live) moments
   pub quarantine : new.totals.peak_quarantine ≡ greatest (λ moment. (usage_in moment).quarantine) moments
   pub held : new.totals.peak_held ≡ greatest (λ moment. (usage_in moment).live + (usage_in moment).quarantine) moments

@@ -9,8 +9,8 @@ use Rattle.cc_heap.specs.declared.outcome.Outcome.{Outcome}
 use Rattle.cc_heap.specs.declared.totals.Totals.{Totals}
 use Rattle.cc_heap.specs.declared.usage.Usage.{Usage}
 use Rattle.cc_heap.specs.Totals.{capped_count, capped_sum, inexact_of}
-use Rattle.cc_heap.specs.Memory.{Memory, object_at, usage_of}
-use Rattle.cc_heap.specs.Heap.{FreesObject, Heap, KeepsObject, MakesObject, empty_heap, swept}
+use Rattle.cc_heap.specs.Memory.{Memory, memory_object, usage_of}
+use Rattle.cc_heap.specs.Heap.{FreesHeapObject, Heap, KeepsHeapObject, MakesHeapObject, empty_heap, swept_heap}
 use Rattle.cc_heap.specs.Events.{IsEvent}
 
 -- Runs holds if the events turn the heap `old` into `new`, each from the heap that the one before left.
@@ -32,10 +32,10 @@ pub record IsMaking (old : Heap) (moment : Moment) (new : Heap) : Type 0 where
   pub id : ℕ
   pub requested : ℕ
   pub size : ℕ
-  pub makes : MakesObject old id requested size new
+  pub makes : MakesHeapObject old id requested size new
   pub is : moment ≡ record {
     memory = new.memory;
-    made = Some (object_at old.settings.align requested makes.start size);
+    made = Some (memory_object old.settings.align requested makes.start size);
     swept = None;
   }
 
@@ -43,12 +43,12 @@ pub record IsMaking (old : Heap) (moment : Moment) (new : Heap) : Type 0 where
 pub record IsFreeing (old : Heap) (moment : Moment) (new : Heap) : Type 0 where
   pub id : ℕ
   pub object : Object
-  pub frees : FreesObject old id object new
+  pub frees : FreesHeapObject old id object new
   pub is : moment ≡ record { memory = new.memory; made = None; swept = None }
 
 -- IsSweeping holds if the quarantine is swept, and the moment has the number of its bytes.
 pub record IsSweeping (old : Heap) (moment : Moment) (new : Heap) : Type 0 where
-  pub sweeps : new ≡ swept old
+  pub sweeps : new ≡ swept_heap old
   pub is : moment ≡ record { memory = new.memory; made = None; swept = Some (usage_of old.memory).quarantine }
 
 -- IsKeeping holds if an object keeps its bytes and has another size.
@@ -58,17 +58,17 @@ pub record IsKeeping (old : Heap) (moment : Moment) (new : Heap) : Type 0 where
   pub before : Object
   pub requested : ℕ
   pub size : ℕ
-  pub keeps : KeepsObject old from to before requested size new
+  pub keeps : KeepsHeapObject old from to before requested size new
   pub is : moment ≡ record { memory = new.memory; made = None; swept = None }
 
--- Passes holds if the heap `old` becomes `new` by one change after the other, and these are the states
+-- PassesEvent holds if the heap `old` becomes `new` by one change after the other, and these are the states
 -- after each.
-abbrev pub Passes : Heap → List Moment → Heap → Type 0
-Passes old [] new = new ≡ old
-Passes old (moment ∷ moments) new =
+abbrev pub PassesEvent : Heap → List Moment → Heap → Type 0
+PassesEvent old [] new = new ≡ old
+PassesEvent old (moment ∷ moments) new =
     (next : Heap)
     × (IsMaking old moment next ⊎ (IsFreeing old moment next ⊎ (IsSweeping old moment next ⊎ IsKeeping old moment next)))
-    × Passes next moments new
+    × PassesEvent next moments new
 
 -- ArePassedBy holds if these are the states that the heap passes by the events: the states of each event, in
 -- order, lead from the heap before it to the heap after it.
@@ -76,7 +76,7 @@ abbrev pub ArePassedBy : Heap → List Event → List Moment → Heap → Type 0
 ArePassedBy old [] moments new = (moments ≡ []) × (new ≡ old)
 ArePassedBy old (event ∷ events) moments new =
     (mine : List Moment) × (rest : List Moment) × (outcome : Outcome) × (next : Heap)
-    × (moments ≡ mine ++ rest) × IsEvent old event outcome next × Passes old mine next
+    × (moments ≡ mine ++ rest) × IsEvent old event outcome next × PassesEvent old mine next
     × ArePassedBy next events rest new
 
 -- ---- The numbers of all states.

@@ -18,8 +18,8 @@ abbrev pub is_of_power : (power size : ℕ) → Bool
 is_of_power power size = nat_le (2 ^ power) size && nat_lt size (2 * 2 ^ power)
 
 -- The numbers with one more object of this size, which takes the padded size.
-abbrev pub with_object : (size padded : ℕ) → SizeTotals → SizeTotals
-with_object size padded totals = record {
+abbrev pub with_sized_object : (size padded : ℕ) → SizeTotals → SizeTotals
+with_sized_object size padded totals = record {
   made = capped_count (totals.made + 1);
   inexact = capped_count (totals.inexact + (if nat_eq padded size then 0 else 1));
   asked = capped_sum (totals.asked + size);
@@ -30,7 +30,7 @@ with_object size padded totals = record {
 abbrev pub with_size : (power size padded : ℕ) → List SizeTotals → List SizeTotals
 with_size power size padded [] = []
 with_size power size padded (row ∷ rows) =
-    (if is_of_power power size then with_object size padded row else row) ∷ with_size (power + 1) size padded rows
+    (if is_of_power power size then with_sized_object size padded row else row) ∷ with_size (power + 1) size padded rows
 
 -- The numbers of no objects.
 abbrev pub no_objects : SizeTotals

@@ -24,22 +24,22 @@ ghost use Rattle.std.specs.Prelude.{
 };
 ghost use Rattle.std.specs.Bool.{OnFalse, OnTrue};
 ghost use Rattle.std.specs.Int.{IsPowerOfTwo};
-ghost use Rattle.cc_heap.specs.Memory.{IsSound, held_spans, usage_of};
+ghost use Rattle.cc_heap.specs.Memory.{IsSoundMemory, memory_spans, usage_of};
 ghost use Rattle.cc_heap.specs.Totals.{with_usage};
 ghost use Rattle.cc_heap.specs.Heap.{
   Attempts,
-  KeepsObject,
+  KeepsHeapObject,
   MustSweep,
   empty_heap,
   kept_object,
   object_under,
-  swept,
+  swept_heap,
   swept_memory,
 };
 ghost use Rattle.cc_heap.specs.Reallocation.{can_take};
 ghost use Rattle.cc_placer.specs.Alignment.{HasAlignment};
 ghost use Rattle.cc_heap.specs.Events.{
-  Allocates,
+  AllocatesInHeap,
   AttemptsToReplace,
   ClearsOther,
   FailsInEvent,
@@ -166,7 +166,7 @@ impl<P: Placer> Heap<P> {
     pub fn usage(&self) -> Usage
         ensures value { result ≡ usage_of self.now.memory }
         ensures fits { result.live + result.quarantine ≤ 2 ^ 127 }
-        ensures at_most { length (held_spans self.now.memory) ≤ self.now.settings.limit }
+        ensures at_most { length (memory_spans self.now.memory) ≤ self.now.settings.limit }
     {
         self.usage
     }
@@ -204,7 +204,7 @@ impl<P: Placer> Heap<P> {
         ensures refused { OnErr result (FailsInEvent self.old event self.new) }
         // Held spans share no byte, and each object has exact bounds, also after a failed
         // allocation.
-        ensures sound { IsSound self.new.settings.align self.new.memory }
+        ensures sound { IsSoundMemory self.new.settings.align self.new.memory }
     {
         // the use of a field shows the prover that the heap is sound, also if nothing changes
         let _ = &self.settings;
@@ -231,7 +231,7 @@ impl<P: Placer> Heap<P> {
         requires aligned { All HasAlignment events.now }
         ensures runs { OnOk result (Runs self.old events.now self.new) }
         // Of a run that a failed allocation stopped, this is all that is promised.
-        ensures sound { IsSound self.new.settings.align self.new.memory }
+        ensures sound { IsSoundMemory self.new.settings.align self.new.memory }
     {
         // the use of a field shows the prover that the heap is sound, also if nothing changes
         let _ = &self.settings;
@@ -244,7 +244,7 @@ impl<P: Placer> Heap<P> {
     /// Frees the object under an id, if that is live.
     fn free_or_not(&mut self, id: u64) -> Outcome
         ensures frees { FreesOrNot self.old id result self.new }
-        ensures sound { IsSound self.new.settings.align self.new.memory }
+        ensures sound { IsSoundMemory self.new.settings.align self.new.memory }
     {
         let is_live = self.free(id);
         Outcome {
@@ -259,7 +259,7 @@ impl<P: Placer> Heap<P> {
     fn sweep_if_asked(&mut self) -> Outcome
         ensures swept { self.new ≡ swept_if_asked self.old }
         ensures told { result ≡ outcome_of false false None }
-        ensures sound { IsSound self.new.settings.align self.new.memory }
+        ensures sound { IsSoundMemory self.new.settings.align self.new.memory }
     {
         if self.settings.policy.is_of_the_trace() {
             self.sweep();
@@ -276,11 +276,11 @@ impl<P: Placer> Heap<P> {
     fn allocate(&mut self, id: u64, align: u64, size: u64) -> Result<Outcome, AllocError>
         requires some { 0 < size }
         requires aligned { IsPowerOfTwo align }
-        ensures allocates { IfOk result (λ outcome. Allocates self.old id align size outcome self.new) }
+        ensures allocates { IfOk result (λ outcome. AllocatesInHeap self.old id align size outcome self.new) }
         ensures refused { OnErr result (FailsToMake self.old id self.new) }
         ensures others { (other : ℕ) → nat_eq id other ≡ false
             → object_under self.new other ≡ object_under self.old other }
-        ensures sound { IsSound self.new.settings.align self.new.memory }
+        ensures sound { IsSoundMemory self.new.settings.align self.new.memory }
     {
         let was_live = self.free(id);
         let making = self.try_to_make(id, align, size)?;
@@ -305,7 +305,7 @@ impl<P: Placer> Heap<P> {
         requires aligned { IsPowerOfTwo align }
         ensures reallocates { IfOk result (λ outcome. Reallocates self.old from to align size outcome self.new) }
         ensures refused { OnErr result (FailsToReallocate self.old from to self.new) }
-        ensures sound { IsSound self.new.settings.align self.new.memory }
+        ensures sound { IsSoundMemory self.new.settings.align self.new.memory }
     {
         match self.kept_object(from, align, size) {
             Some(object) => self.keep(from, to, object, align, size),
@@ -350,7 +350,7 @@ impl<P: Placer> Heap<P> {
         requires fits { can_take self.old.settings.align align size object.span ≡ true }
         ensures keeps { IfOk result (λ outcome. KeepsPlace self.old from to object align size outcome self.new) }
         ensures refused { OnErr result (FailsToReallocate self.old from to self.new) }
-        ensures sound { IsSound self.new.settings.align self.new.memory }
+        ensures sound { IsSoundMemory self.new.settings.align self.new.memory }
     {
         let was_live = self.clear_other(from, to);
         self.resize(from, to, object, align, size)?;
@@ -368,7 +368,7 @@ impl<P: Placer> Heap<P> {
         ensures from { object_under self.new from ≡ object_under self.old from }
         ensures gone { nat_eq from to ≡ false → IsNone (object_under self.new to) }
         ensures settings { self.new.settings ≡ self.old.settings }
-        ensures sound { IsSound self.new.settings.align self.new.memory }
+        ensures sound { IsSoundMemory self.new.settings.align self.new.memory }
     {
         // the use of a field shows the prover that the heap is sound, also if nothing changes
         let _ = &self.settings;
@@ -394,9 +394,9 @@ impl<P: Placer> Heap<P> {
         requires live { object_under self.old from ≡ Some before }
         requires fits { can_take self.old.settings.align align size before.span ≡ true }
         requires fresh { nat_eq from to ≡ false → IsNone (object_under self.old to) }
-        ensures keeps { OnOk result (KeepsObject self.old from to before align size self.new) }
+        ensures keeps { OnOk result (KeepsHeapObject self.old from to before align size self.new) }
         ensures refused { OnErr result (self.new ≡ self.old) }
-        ensures sound { IsSound self.new.settings.align self.new.memory }
+        ensures sound { IsSoundMemory self.new.settings.align self.new.memory }
     {
         let object = Object {
             size,
@@ -415,7 +415,7 @@ impl<P: Placer> Heap<P> {
         requires aligned { IsPowerOfTwo align }
         ensures remakes { IfOk result (λ outcome. Remakes self.old from to align size outcome self.new) }
         ensures refused { OnErr result (FailsToReallocate self.old from to self.new) }
-        ensures sound { IsSound self.new.settings.align self.new.memory }
+        ensures sound { IsSoundMemory self.new.settings.align self.new.memory }
     {
         if !self.objects.contains_key(&from) {
             let outcome = self.allocate(to, align, size)?;
@@ -438,7 +438,7 @@ impl<P: Placer> Heap<P> {
         requires differ { nat_eq to from ≡ false }
         ensures moves { IfOk result (λ outcome. Moves self.old from to align size outcome self.new) }
         ensures refused { OnErr result (FailsToMake self.old to self.new) }
-        ensures sound { IsSound self.new.settings.align self.new.memory }
+        ensures sound { IsSoundMemory self.new.settings.align self.new.memory }
     {
         let outcome = self.allocate(to, align, size)?;
         self.free(from);
@@ -452,7 +452,7 @@ impl<P: Placer> Heap<P> {
         requires live { IsSome (object_under self.old id) }
         ensures replaces { IfOk result (λ outcome. ReplacesLive self.old id align size outcome self.new) }
         ensures refused { OnErr result (IsSweptOrNot self.old self.new) }
-        ensures sound { IsSound self.new.settings.align self.new.memory }
+        ensures sound { IsSoundMemory self.new.settings.align self.new.memory }
     {
         let making = self.try_to_replace(id, align, size)?;
         self.follow_replacing(id, making);
@@ -468,7 +468,7 @@ impl<P: Placer> Heap<P> {
     fn follow_replacing(&mut self, id: u64, making: Making)
         requires live { IsSome (object_under self.old id) }
         ensures follows { FollowsReplacing self.old id making self.new }
-        ensures sound { IsSound self.new.settings.align self.new.memory }
+        ensures sound { IsSoundMemory self.new.settings.align self.new.memory }
     {
         if making.is_made() {
             self.follow_policy();
@@ -487,7 +487,7 @@ impl<P: Placer> Heap<P> {
         ensures refused { OnErr result (IsSweptOrNot self.old self.new) }
         ensures others { (other : ℕ) → nat_eq id other ≡ false
             → object_under self.new other ≡ object_under self.old other }
-        ensures sound { IsSound self.new.settings.align self.new.memory }
+        ensures sound { IsSoundMemory self.new.settings.align self.new.memory }
     {
         let making = self.make(id, align, size)?;
         if making.is_made() {
@@ -506,7 +506,7 @@ impl<P: Placer> Heap<P> {
         ensures tries { IfOk result (λ making. TriesToReplace self.old id align size making self.new) }
         ensures refused { OnErr result (IsSweptOrNot self.old self.new) }
         ensures live { IfOk result (λ making. IsSome (object_under self.new id)) }
-        ensures sound { IsSound self.new.settings.align self.new.memory }
+        ensures sound { IsSoundMemory self.new.settings.align self.new.memory }
     {
         let making = self.replace(id, align, size)?;
         if making.is_made() {
@@ -526,7 +526,7 @@ impl<P: Placer> Heap<P> {
         ensures attempts { IfOk result (λ making. AttemptsToReplace self.old id align size making self.new) }
         ensures refused { OnErr result (self.new ≡ self.old) }
         ensures live { IsSome (object_under self.new id) }
-        ensures sound { IsSound self.new.settings.align self.new.memory }
+        ensures sound { IsSoundMemory self.new.settings.align self.new.memory }
     {
         let making = self.make(id, align, size)?;
         if !making.is_made() {
@@ -551,7 +551,7 @@ impl<P: Placer> Heap<P> {
         ensures live { IsSome (object_under self.old id) → IsSome (object_under self.new id) }
         ensures others { (other : ℕ) → nat_eq id other ≡ false
             → object_under self.new other ≡ object_under self.old other }
-        ensures sound { IsSound self.new.settings.align self.new.memory }
+        ensures sound { IsSoundMemory self.new.settings.align self.new.memory }
     {
         if self.objects.len() + self.quarantine.len() >= self.settings.limit as usize {
             return Ok(Making::Full);
@@ -582,7 +582,7 @@ impl<P: Placer> Heap<P> {
         ensures gone { IsNone (object_under self.new id) }
         ensures others { (other : ℕ) → nat_eq id other ≡ false
             → object_under self.new other ≡ object_under self.old other }
-        ensures sound { IsSound self.new.settings.align self.new.memory }
+        ensures sound { IsSoundMemory self.new.settings.align self.new.memory }
     {
         if !self.quarantine_object(id) {
             return false;
@@ -600,7 +600,7 @@ impl<P: Placer> Heap<P> {
         ensures gone { IsNone (object_under self.new id) }
         ensures others { (other : ℕ) → nat_eq id other ≡ false
             → object_under self.new other ≡ object_under self.old other }
-        ensures sound { IsSound self.new.settings.align self.new.memory }
+        ensures sound { IsSoundMemory self.new.settings.align self.new.memory }
     {
         let Some(object) = self.objects.remove(&id) else {
             return false;
@@ -616,7 +616,7 @@ impl<P: Placer> Heap<P> {
         requires some { 0 < length self.old.memory.quarantined }
         ensures settles { Settles self.old self.new }
         ensures objects { (id : ℕ) → object_under self.new id ≡ object_under self.old id }
-        ensures sound { IsSound self.new.settings.align self.new.memory }
+        ensures sound { IsSoundMemory self.new.settings.align self.new.memory }
     {
         if self.settings.policy.is_immediate() {
             self.release_last();
@@ -629,7 +629,7 @@ impl<P: Placer> Heap<P> {
     /// Counts the state that the heap has.
     fn count_state(&mut self)
         ensures counts { self.new ≡ record self.old { totals = with_usage self.old.totals (usage_of self.old.memory) } }
-        ensures sound { IsSound self.new.settings.align self.new.memory }
+        ensures sound { IsSoundMemory self.new.settings.align self.new.memory }
     {
         self.totals = self.totals.with_usage(self.usage);
     }
@@ -638,7 +638,7 @@ impl<P: Placer> Heap<P> {
     fn follow_policy(&mut self)
         ensures follows { FollowsPolicy self.old self.new }
         ensures objects { (id : ℕ) → object_under self.new id ≡ object_under self.old id }
-        ensures sound { IsSound self.new.settings.align self.new.memory }
+        ensures sound { IsSoundMemory self.new.settings.align self.new.memory }
     {
         // the use of a field shows the prover that the heap is sound, also if nothing changes
         let _ = &self.settings;
@@ -661,8 +661,8 @@ impl<P: Placer> Heap<P> {
 
     /// Sweeps the quarantine.
     fn sweep(&mut self)
-        ensures swept { self.new ≡ swept self.old }
-        ensures sound { IsSound self.new.settings.align self.new.memory }
+        ensures swept { self.new ≡ swept_heap self.old }
+        ensures sound { IsSoundMemory self.new.settings.align self.new.memory }
     {
         let bytes = self.usage.quarantine;
         self.release_all();
@@ -672,7 +672,7 @@ impl<P: Placer> Heap<P> {
     /// Releases all quarantined spans.
     fn release_all(&mut self)
         ensures rest { self.new ≡ record self.old { memory = swept_memory self.old.memory } }
-        ensures sound { IsSound self.new.settings.align self.new.memory }
+        ensures sound { IsSoundMemory self.new.settings.align self.new.memory }
     {
         let count = self.quarantine.len();
         for _released in 0..count {
@@ -684,7 +684,7 @@ impl<P: Placer> Heap<P> {
     fn release_last(&mut self)
         requires { 0 < length self.old.memory.quarantined }
         ensures releases { ReleasesLast self.old self.new }
-        ensures sound { IsSound self.new.settings.align self.new.memory }
+        ensures sound { IsSoundMemory self.new.settings.align self.new.memory }
     {
         let span = self.quarantine.pop().unwrap();
         self.placer.give_back(span);

@@ -2,7 +2,7 @@
 ghost use Rattle.std.specs.Prelude.{◌≡◌, ℕ, [], length, IfOk, IfSome, OnOk, ◌<◌, ◌≤◌};
 ghost use Rattle.cc_placer.specs.Alignment.{HasAlignment};
 ghost use Rattle.cc_heap.specs.Lost.{IsRunEvent, is_lost, is_lost_one, is_not_made, noted};
-ghost use Rattle.cc_heap.specs.Memory.{IsSound, held_spans, usage_of};
+ghost use Rattle.cc_heap.specs.Memory.{IsSoundMemory, memory_spans, usage_of};
 ghost use Rattle.cc_heap.specs.Peaks.{without_peaks};
 ghost use Rattle.cc_heap.specs.Sizes.{no_sizes, with_made_size};
 
@@ -56,7 +56,7 @@ impl<P: Placer> Run<P> {
     pub fn event(&mut self, event: Event) -> Result<Outcome, AllocError>
         requires aligned { HasAlignment event }
         ensures is_event { IfOk result (λ outcome. IsRunEvent self.old event outcome self.new) }
-        ensures sound { IsSound self.new.heap.settings.align self.new.heap.memory }
+        ensures sound { IsSoundMemory self.new.heap.settings.align self.new.heap.memory }
     {
         let align = self.heap.settings().align;
         let told = self.heap.event(event)?;
@@ -76,7 +76,7 @@ impl<P: Placer> Run<P> {
     /// No heap holds more spans than its limit, whatever events it took.
     pub fn usage(&self) -> Usage
         ensures value { result ≡ usage_of self.now.heap.memory }
-        ensures at_most { length (held_spans self.now.heap.memory) ≤ self.now.heap.settings.limit }
+        ensures at_most { length (memory_spans self.now.heap.memory) ≤ self.now.heap.settings.limit }
     {
         self.heap.usage()
     }

@@ -1,6 +1,6 @@
 //! The numbers of the objects that were made, by the powers of two of their sizes.
 ghost use Rattle.std.specs.Prelude.{◌≡◌, ◌<◌, IfSome};
-ghost use Rattle.cc_heap.specs.Sizes.{asked_size, made_size, with_object, with_size};
+ghost use Rattle.cc_heap.specs.Sizes.{asked_size, made_size, with_sized_object, with_size};
 
 use crate::making::Making;
 use cc_placer::Event;
@@ -30,7 +30,7 @@ pub const NO_OBJECTS: SizeTotals = SizeTotals {
 impl SizeTotals {
     /// Returns the numbers with one more object of this size, which takes the padded size.
     fn with_object(self, size: u64, padded: u128) -> SizeTotals
-        ensures { result ≡ with_object size padded self }
+        ensures { result ≡ with_sized_object size padded self }
     {
         let asked = u128::from(size);
         SizeTotals {

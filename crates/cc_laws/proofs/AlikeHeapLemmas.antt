@@ -17,10 +17,11 @@ use Rattle.cc_heap.specs.declared.object.Object.{Object}
 use Rattle.cc_heap.specs.declared.outcome.Outcome.{Outcome}
 use Rattle.cc_heap.specs.declared.totals.Totals.{Totals}
 use Rattle.cc_heap.specs.declared.usage.Usage.{Usage}
-use Rattle.cc_heap.specs.Events.{Allocates, AllocatesUnknown, AttemptsToReplace, ClearsOther, FollowsPolicy, FollowsReplacing, Frees, FreesIfLive, FreesOrNot, HasNoRoom, IsEvent, KeepsPlace}
+use Rattle.cc_heap.specs.Events.{AllocatesInHeap, AllocatesUnknown, AttemptsToReplace, ClearsOther, FollowsPolicy, FollowsReplacing}
+use Rattle.cc_heap.specs.Events.{FreesInHeap, FreesIfLive, FreesOrNot, HasNoRoomInHeap, IsEvent, KeepsPlace}
 use Rattle.cc_heap.specs.Events.{Moves, Reallocates, Remakes, Replaces, ReplacesLive, Tries, TriesToReplace, outcome_of, size_of, swept_if_asked}
-use Rattle.cc_heap.specs.Heap.{Attempts, FreesObject, Heap, KeepsObject, MakesObject, MustSweep, kept_object, object_under, quarantined_with, resized, swept}
-use Rattle.cc_heap.specs.Memory.{held_spans, object_at, span_of, start_unit, usage_of}
+use Rattle.cc_heap.specs.Heap.{Attempts, FreesHeapObject, Heap, KeepsHeapObject, MakesHeapObject, MustSweep, kept_object, object_under, quarantined_with, resized, swept_heap}
+use Rattle.cc_heap.specs.Memory.{memory_spans, memory_object, object_span, start_unit, usage_of}
 use Rattle.cc_heap.specs.Policy.{AsksForSweep, is_of_the_trace}
 use Rattle.cc_heap.specs.Reallocation.{can_take, is_keep}
 use Rattle.cc_heap.specs.Totals.{with_made, with_sweep, with_usage}
@@ -52,27 +53,27 @@ pub record AreSame {X : Type 0} (result told : X) (one other : Heap) : Type 0 wh
 -- ---- what does not depend on the order
 
 pub sum_spans : (weight : Span → ℕ) (entries : List Entry)
-    → sum_by weight (map span_of entries) ≡ sum_by (λ (entry : Entry). weight (span_of entry)) entries
+    → sum_by weight (map object_span entries) ≡ sum_by (λ (entry : Entry). weight (object_span entry)) entries
 sum_spans weight [] = refl
 sum_spans weight (entry ∷ entries) =
     let rest = sum_spans weight entries in
     omega (
       arith,
       rest,
-      sum_by-cons weight (span_of entry) (map span_of entries),
-      sum_by-cons (λ (e : Entry). weight (span_of e)) entry entries,
+      sum_by-cons weight (object_span entry) (map object_span entries),
+      sum_by-cons (λ (e : Entry). weight (object_span e)) entry entries,
     )
 
 held_along : (live other : List Entry) (waiting : List Span) → HaveSameSums live other
-    → HaveSameSpans (map span_of live ++ waiting) (map span_of other ++ waiting)
+    → HaveSameSpans (map object_span live ++ waiting) (map object_span other ++ waiting)
 held_along live other waiting same =
-    permutation_from_sums (map span_of live ++ waiting) (map span_of other ++ waiting) (λ weight. omega (
+    permutation_from_sums (map object_span live ++ waiting) (map object_span other ++ waiting) (λ weight. omega (
       arith,
-      same (λ entry. weight (span_of entry)),
+      same (λ entry. weight (object_span entry)),
       sum_spans weight live,
       sum_spans weight other,
-      sum_by-append weight (map span_of live) waiting,
-      sum_by-append weight (map span_of other) waiting,
+      sum_by-append weight (map object_span live) waiting,
+      sum_by-append weight (map object_span other) waiting,
     ))
 
 count_sum : (entries : List Entry) → sum_by (λ (entry : Entry). 1) entries ≡ length entries
@@ -84,7 +85,7 @@ pub usage_along : (live other : List Entry) (waiting : List Span) → HaveSameSu
 usage_along live other waiting same =
     let count : length other ≡ length live = omega (arith, same (λ entry. 1), count_sum live, count_sum other) in
     let asked = same (λ entry. entry.1.size) in
-    let bytes = same (λ entry. length_of (span_of entry)) in
+    let bytes = same (λ entry. length_of (object_span entry)) in
     λ i. record { objects = count i; asked = asked i; live = bytes i; quarantine = sum_by length_of waiting }
 
 same_placement : (pool : Span) (held others : List Span) (size align start begin : ℕ) → HaveSameSpans held others
@@ -96,11 +97,11 @@ same_placement pool held others size align start begin same one other =
 -- ---- the changes
 
 module _ (old : Heap) (live : List Entry) (same : HaveSameSums old.memory.live live) where
-  held-same : HaveSameSpans (held_spans old.memory) (held_spans (re live old).memory)
+  held-same : HaveSameSpans (memory_spans old.memory) (memory_spans (re live old).memory)
   held-same = held_along old.memory.live live old.memory.quarantined same
 
-  held-length : length (held_spans (re live old).memory) ≡ length (held_spans old.memory)
-  held-length = length_permutation (held_spans old.memory) (held_spans (re live old).memory) held-same
+  held-length : length (memory_spans (re live old).memory) ≡ length (memory_spans old.memory)
+  held-length = length_permutation (memory_spans old.memory) (memory_spans (re live old).memory) held-same
 
   stays : (new another : Heap) → new ≡ old → another ≡ re live old → IsReordered new another
   stays new another is is_other = record {
@@ -109,27 +110,27 @@ module _ (old : Heap) (live : List Entry) (same : HaveSameSums old.memory.live l
     is = is_other ∙ ap (re live) (sym is);
   }
 
-  makes : (new another : Heap) (id requested size : ℕ) → MakesObject old id requested size new
-      → MakesObject (re live old) id requested size another → IsReordered new another
+  makes : (new another : Heap) (id requested size : ℕ) → MakesHeapObject old id requested size new
+      → MakesHeapObject (re live old) id requested size another → IsReordered new another
   makes new another id requested size first second =
       let align = old.settings.align in
       let start : second.start ≡ first.start =
-      same_placement old.settings.pool (held_spans old.memory) (held_spans (re live old).memory) (padded_size_for align size)
+      same_placement old.settings.pool (memory_spans old.memory) (memory_spans (re live old).memory) (padded_size_for align size)
       (start_unit align requested size) first.start second.start held-same first.placement second.placement in
       let sums : HaveSameSums first.live second.live = λ weight.
-      let begun = ap (λ (n : ℕ). weight (id, object_at align requested n size)) start in
+      let begun = ap (λ (n : ℕ). weight (id, memory_object align requested n size)) start in
       omega (
         arith,
         begun,
         same weight,
-        sum_by-IsPermutation weight ((id, object_at align requested first.start size) ∷ old.memory.live) first.live first.adds,
-        sum_by-IsPermutation weight ((id, object_at align requested second.start size) ∷ live) second.live second.adds,
-        sum_by-cons weight (id, object_at align requested first.start size) old.memory.live,
-        sum_by-cons weight (id, object_at align requested second.start size) live,
+        sum_by-IsPermutation weight ((id, memory_object align requested first.start size) ∷ old.memory.live) first.live first.adds,
+        sum_by-IsPermutation weight ((id, memory_object align requested second.start size) ∷ live) second.live second.adds,
+        sum_by-cons weight (id, memory_object align requested first.start size) old.memory.live,
+        sum_by-cons weight (id, memory_object align requested second.start size) live,
       ) in
       let usage = usage_along first.live second.live old.memory.quarantined sums in
       let totals : ℕ → Usage → Totals = λ begin now.
-      with_made old.totals (object_at align requested begin size) (begin + padded_size_for align size - old.settings.pool.base) now in
+      with_made old.totals (memory_object align requested begin size) (begin + padded_size_for align size - old.settings.pool.base) now in
       let second_usage : Usage = usage_of (record { live = second.live; quarantined = old.memory.quarantined }) in
       let same_totals = ap (λ (n : ℕ). totals n second_usage) start ∙ ap (totals first.start) usage in
       let heap : Totals → Heap = λ t. record {
@@ -144,8 +145,8 @@ module _ (old : Heap) (live : List Entry) (same : HaveSameSums old.memory.live l
         is = second.is_new ∙ ap heap same_totals ∙ ap (re second.live) (sym now);
       }
 
-  frees_object : (new another : Heap) (id : ℕ) (object : Object) → FreesObject old id object new
-      → FreesObject (re live old) id object another → IsReordered new another
+  frees_object : (new another : Heap) (id : ℕ) (object : Object) → FreesHeapObject old id object new
+      → FreesHeapObject (re live old) id object another → IsReordered new another
   frees_object new another id object first second =
       let sums : HaveSameSums first.live second.live = λ weight. omega (
         arith,
@@ -170,7 +171,7 @@ module _ (old : Heap) (live : List Entry) (same : HaveSameSums old.memory.live l
       }
 
   keeps_object : (new another : Heap) (from to : ℕ) (before : Object) (requested size : ℕ)
-      → KeepsObject old from to before requested size new → KeepsObject (re live old) from to before requested size another
+      → KeepsHeapObject old from to before requested size new → KeepsHeapObject (re live old) from to before requested size another
       → IsReordered new another
   keeps_object new another from to before requested size first second =
       let sums : HaveSameSums first.live second.live = λ weight. omega (
@@ -196,7 +197,7 @@ module _ (old : Heap) (live : List Entry) (same : HaveSameSums old.memory.live l
         is = second.is_new ∙ ap heap usage ∙ ap (re second.live) (sym now);
       }
 
-  sweeps : (new another : Heap) → new ≡ swept old → another ≡ swept (re live old) → IsReordered new another
+  sweeps : (new another : Heap) → new ≡ swept_heap old → another ≡ swept_heap (re live old) → IsReordered new another
   sweeps new another is is_other =
       let usage = usage_along old.memory.live live [] same in
       let heap : Usage → Heap = λ u. record {
@@ -218,7 +219,7 @@ must_along old live same must = record {
     quarantine = sum_by length_of old.memory.quarantined;
     high = old.totals.high;
     waiting = length old.memory.quarantined;
-  })) (sym (same (λ entry. length_of (span_of entry)))) must.asks;
+  })) (sym (same (λ entry. length_of (object_span entry)))) must.asks;
 }
 
 must_back : (old : Heap) (live : List Entry) → HaveSameSums old.memory.live live → MustSweep (re live old) → MustSweep old
@@ -229,7 +230,7 @@ must_back old live same must = record {
     quarantine = sum_by length_of old.memory.quarantined;
     high = old.totals.high;
     waiting = length old.memory.quarantined;
-  })) (same (λ entry. length_of (span_of entry))) must.asks;
+  })) (same (λ entry. length_of (object_span entry))) must.asks;
 }
 
 follows : (old : Heap) (live : List Entry) (new another : Heap) → HaveSameSums old.memory.live live → FollowsPolicy old new
@@ -242,13 +243,13 @@ follows old live new another same (inr (not, is)) (inr (not_too, is_other)) = st
 -- ---- a free
 
 frees : (old : Heap) (live : List Entry) (new another : Heap) (id : ℕ) → AreOnceIn old.memory.live → HaveSameSums old.memory.live live
-    → Frees old id new → Frees (re live old) id another → IsReordered new another
+    → FreesInHeap old id new → FreesInHeap (re live old) id another → IsReordered new another
 frees old live new another id once same first second =
     let found : Some second.object ≡ Some first.object =
     sym second.is_live ∙ lookup_along id old.memory.live live once same ∙ first.is_live in
     let object : second.object ≡ first.object = (let e = found in cc) in
     let freed = frees_object old live same first.freed second.freed id first.object first.frees
-    (subst (λ (o : Object). FreesObject (re live old) id o second.freed) object second.frees) in
+    (subst (λ (o : Object). FreesHeapObject (re live old) id o second.freed) object second.frees) in
     follows first.freed freed.live new another freed.same first.follows
     (subst (λ (h : Heap). FollowsPolicy h another) freed.is second.follows)
 
@@ -274,9 +275,9 @@ frees_if_live old live new another id false true once same (none, is) second =
 
 -- an object is made, or there is no place for it
 made_or_not : (old : Heap) (live : List Entry) (new : Heap) (id requested size : ℕ) → HaveSameSums old.memory.live live
-    → MakesObject old id requested size new → HasNoRoom (re live old) requested size → ⊥
+    → MakesHeapObject old id requested size new → HasNoRoomInHeap (re live old) requested size → ⊥
 made_or_not old live new id requested size same made (inl none) =
-    none made.start (place_along old.settings.pool (held_spans old.memory) (held_spans (re live old).memory)
+    none made.start (place_along old.settings.pool (memory_spans old.memory) (memory_spans (re live old).memory)
     (padded_size_for old.settings.align size) (start_unit old.settings.align requested size) made.start
     (held-same old live same) made.placement.place)
 made_or_not old live new id requested size same made (inr many) =
@@ -318,13 +319,13 @@ tries old live new another id requested size making told same (inl (made, first)
 tries old live new another id requested size making told same (inr (none, first)) (inl (made, second)) =
     absurd (made_or_not (re live old) old.memory.live another id requested size (back old live same) second none)
 tries old live new another id requested size making told same (inr (none, first)) (inr (none_too, second)) =
-    let sweep = sweeps old live same (swept old) (swept (re live old)) refl refl in
-    attempts (swept old) sweep.live new another id requested size making told sweep.same first
+    let sweep = sweeps old live same (swept_heap old) (swept_heap (re live old)) refl refl in
+    attempts (swept_heap old) sweep.live new another id requested size making told sweep.same first
     (subst (λ (h : Heap). Attempts h id requested size told another) sweep.is second)
 
 allocates : (old : Heap) (live : List Entry) (new another : Heap) (id requested size : ℕ) (outcome told : Outcome)
-    → AreOnceIn old.memory.live → HaveSameSums old.memory.live live → Allocates old id requested size outcome new
-    → Allocates (re live old) id requested size told another → AreSame outcome told new another
+    → AreOnceIn old.memory.live → HaveSameSums old.memory.live live → AllocatesInHeap old id requested size outcome new
+    → AllocatesInHeap (re live old) id requested size told another → AreSame outcome told new another
 allocates old live new another id requested size outcome told once same first second =
     let cleared = frees_if_live old live first.cleared second.cleared id first.was_live second.was_live once same first.clears second.clears in
     let tried = tries first.cleared cleared.heap.live new another id requested size first.making second.making cleared.heap.same first.tries
@@ -347,8 +348,8 @@ replaces old live new another id requested size once same first second =
     let before : second.before ≡ first.before = (let e = found in cc) in
     let made = makes old live same first.made second.made id requested size first.makes second.makes in
     frees_object first.made made.live made.same new another id first.before first.frees
-    (subst (λ (o : Object). FreesObject (re made.live first.made) id o another) before
-    (subst (λ (h : Heap). FreesObject h id second.before another) made.is second.frees))
+    (subst (λ (o : Object). FreesHeapObject (re made.live first.made) id o another) before
+    (subst (λ (h : Heap). FreesHeapObject h id second.before another) made.is second.frees))
 
 attempts_to_replace : (old : Heap) (live : List Entry) (new another : Heap) (id requested size : ℕ) (making told : Making)
     → AreOnceIn old.memory.live → HaveSameSums old.memory.live live → AttemptsToReplace old id requested size making new
@@ -382,8 +383,8 @@ tries_to_replace old live new another id requested size making told once same (i
 tries_to_replace old live new another id requested size making told once same (inr (none, first)) (inl (made, second)) =
     absurd (made_or_not (re live old) old.memory.live second.made id requested size (back old live same) second.makes none)
 tries_to_replace old live new another id requested size making told once same (inr (none, first)) (inr (none_too, second)) =
-    let sweep = sweeps old live same (swept old) (swept (re live old)) refl refl in
-    attempts_to_replace (swept old) sweep.live new another id requested size making told once sweep.same first
+    let sweep = sweeps old live same (swept_heap old) (swept_heap (re live old)) refl refl in
+    attempts_to_replace (swept_heap old) sweep.live new another id requested size making told once sweep.same first
     (subst (λ (h : Heap). AttemptsToReplace h id requested size told another) sweep.is second)
 
 follows_replacing : (old : Heap) (live : List Entry) (new another : Heap) (id : ℕ) (making : Making) → AreOnceIn old.memory.live
@@ -414,7 +415,7 @@ moves old live new another from to requested size outcome told once same first s
     record {
       same = made.same;
       heap = frees first.made made.heap.live new another from made_once made.heap.same first.frees
-          (subst (λ (h : Heap). Frees h from another) made.heap.is second.frees);
+          (subst (λ (h : Heap). FreesInHeap h from another) made.heap.is second.frees);
     }
 
 allocates_unknown : (old : Heap) (live : List Entry) (new another : Heap) (id requested size : ℕ) (outcome told : Outcome)
@@ -480,7 +481,7 @@ keeps_place old live new another from to object requested size outcome told once
     record {
       same = second.is_told ∙ ap (λ (b : Bool). outcome_of b false None) cleared.same ∙ sym first.is_told;
       heap = keeps_object first.cleared cleared.heap.live cleared.heap.same new another from to object requested size first.keeps
-          (subst (λ (h : Heap). KeepsObject h from to object requested size another) cleared.heap.is second.keeps);
+          (subst (λ (h : Heap). KeepsHeapObject h from to object requested size another) cleared.heap.is second.keeps);
     }
 
 -- ---- each id stays that of one object at most
@@ -503,7 +504,7 @@ follows_sums : (old new : Heap) → FollowsPolicy old new → HaveSameSums old.m
 follows_sums old new (inl (must, is)) weight = ap (λ (h : Heap). sum_by weight h.memory.live) is
 follows_sums old new (inr (not, is)) weight = ap (λ (h : Heap). sum_by weight h.memory.live) is
 
-freed_without : (old new : Heap) (id : ℕ) (object : Object) → AreOnceIn old.memory.live → FreesObject old id object new → IsOnceWithout id new
+freed_without : (old new : Heap) (id : ℕ) (object : Object) → AreOnceIn old.memory.live → FreesHeapObject old id object new → IsOnceWithout id new
 freed_without old new id object once freed =
     let sums : (weight : Entry → ℕ) → sum_by weight old.memory.live ≡ weight (id, object) + sum_by weight new.memory.live =
     λ weight. omega (
@@ -517,7 +518,7 @@ freed_without old new id object once freed =
       none = omega (arith, sums (id_weight id), own_weight id object, once id);
     }
 
-frees_without : (old new : Heap) (id : ℕ) → AreOnceIn old.memory.live → Frees old id new → IsOnceWithout id new
+frees_without : (old new : Heap) (id : ℕ) → AreOnceIn old.memory.live → FreesInHeap old id new → IsOnceWithout id new
 frees_without old new id once freed =
     without_along id freed.freed new (follows_sums freed.freed new freed.follows) (freed_without old freed.freed id freed.object once freed.frees)
 
@@ -528,10 +529,10 @@ clears_without old new id false once (none, is) =
     without_along id old new (λ weight. ap (λ (h : Heap). sum_by weight h.memory.live) is)
     (record { once = once; none = none_counted id old.memory.live (none_is (object_under old id) none) })
 
-pub makes_once : (old new : Heap) (id requested size : ℕ) → IsOnceWithout id old → MakesObject old id requested size new
+pub makes_once : (old new : Heap) (id requested size : ℕ) → IsOnceWithout id old → MakesHeapObject old id requested size new
     → AreOnceIn new.memory.live
 makes_once old new id requested size was made =
-    let object = object_at old.settings.align requested made.start size in
+    let object = memory_object old.settings.align requested made.start size in
     subst (λ (h : Heap). AreOnceIn h.memory.live) (sym made.is_new)
     (once_more id object old.memory.live made.live was.none (one_more old.memory.live made.live (id, object) made.adds) was.once)
 
@@ -545,10 +546,10 @@ tries_once : (old new : Heap) (id requested size : ℕ) (making : Making) → Is
     → AreOnceIn new.memory.live
 tries_once old new id requested size making was (inl (is, made)) = makes_once old new id requested size was made
 tries_once old new id requested size making was (inr (none, again)) =
-    attempts_once (swept old) new id requested size making (without_along id old (swept old) (λ weight. refl) was) again
+    attempts_once (swept_heap old) new id requested size making (without_along id old (swept_heap old) (λ weight. refl) was) again
 
 allocates_once : (old new : Heap) (id requested size : ℕ) (outcome : Outcome) → AreOnceIn old.memory.live
-    → Allocates old id requested size outcome new → AreOnceIn new.memory.live
+    → AllocatesInHeap old id requested size outcome new → AreOnceIn new.memory.live
 allocates_once old new id requested size outcome once made =
     tries_once made.cleared new id requested size made.making (clears_without old made.cleared id made.was_live once made.clears) made.tries
 
@@ -557,7 +558,7 @@ replaces_once : (old new : Heap) (id requested size : ℕ) → AreOnceIn old.mem
 replaces_once old new id requested size once made other =
     let makes = made.makes in
     let freed = made.frees in
-    let object = object_at old.settings.align requested makes.start size in
+    let object = memory_object old.settings.align requested makes.start size in
     omega (
       arith,
       once other,
@@ -579,7 +580,7 @@ tries_to_replace_once : (old new : Heap) (id requested size : ℕ) (making : Mak
     → TriesToReplace old id requested size making new → AreOnceIn new.memory.live
 tries_to_replace_once old new id requested size making once (inl (is, made)) = replaces_once old new id requested size once made
 tries_to_replace_once old new id requested size making once (inr (none, again)) =
-    attempts_to_replace_once (swept old) new id requested size making once again
+    attempts_to_replace_once (swept_heap old) new id requested size making once again
 
 follows_replacing_once : (old new : Heap) (id : ℕ) (making : Making) → AreOnceIn old.memory.live → FollowsReplacing old id making new
     → AreOnceIn new.memory.live
@@ -605,7 +606,7 @@ remakes_once old new from to requested size outcome once (inr (some, inr (two, m
     record { between = between; once = (frees_without made.made new from between made.frees).once }
 
 -- an object that keeps its place, under another id that is not live or under its own
-keeps_sums : (old new : Heap) (from to : ℕ) (object : Object) (requested size other : ℕ) → KeepsObject old from to object requested size new
+keeps_sums : (old new : Heap) (from to : ℕ) (object : Object) (requested size other : ℕ) → KeepsHeapObject old from to object requested size new
     → sum_by (id_weight other) new.memory.live + id_weight other (from, object)
     ≡ sum_by (id_weight other) old.memory.live + id_weight other (to, object)
 keeps_sums old new from to object requested size other kept = omega (
@@ -659,7 +660,7 @@ event_once old (Reallocate from to size) outcome new once made = reallocates_onc
 event_once old (Free id) outcome new once freed = (clears_without old new id freed.is_live once freed.frees).once
 event_once old Sweep outcome new once (is, told) = once_along (swept_if_asked old) new is (by_policy (is_of_the_trace old.settings.policy))
   where
-    by_policy : (b : Bool) → AreOnceIn (if b then swept old else old).memory.live
+    by_policy : (b : Bool) → AreOnceIn (if b then swept_heap old else old).memory.live
     by_policy true = once
     by_policy false = once
 event_once old (Clock time) outcome new once (is, told) = once_along old new is once
@@ -711,7 +712,7 @@ event_one old live new another (Free id) outcome told once same first second = f
 event_one old live new another Sweep outcome told once same (is, is_told) (is_other, is_told_too) =
     record { same = is_told_too ∙ sym is_told; heap = by_policy (is_of_the_trace old.settings.policy) is is_other }
   where
-    by_policy : (b : Bool) → new ≡ (if b then swept old else old) → another ≡ (if b then swept (re live old) else re live old)
+    by_policy : (b : Bool) → new ≡ (if b then swept_heap old else old) → another ≡ (if b then swept_heap (re live old) else re live old)
         → IsReordered new another
     by_policy true is is_other = sweeps old live same new another is is_other
     by_policy false is is_other = stays old live same new another is is_other

@@ -13,7 +13,7 @@ use Rattle.cc_heap.specs.declared.reallocation.Reallocation.TheVariants.{Move}
 use Rattle.cc_heap.specs.declared.settings.Settings.{Settings}
 use Rattle.cc_heap.specs.Policy.{is_of_the_trace}
 use Rattle.cc_heap.specs.Reallocation.{can_take, is_keep}
-use Rattle.cc_heap.specs.Heap.{Heap, empty_heap, kept_object, object_under, swept}
+use Rattle.cc_heap.specs.Heap.{Heap, empty_heap, kept_object, object_under, swept_heap}
 use Rattle.cc_heap.specs.Events.{FreesIfLive, IsEvent, KeepsPlace, Reallocates, Remakes}
 use Rattle.cc_heap.specs.Run.{Runs}
 use Rattle.cc_replay.specs.Changes.{AreChangesOf, AsksForUnit, CanBePlanned, Change, Changes, objects_made}
@@ -103,7 +103,7 @@ freed : (old new : Heap) (id : ℕ) (is_live : Bool) → IsKept old → FreesIfL
 freed old new id true kept is = part old new (frees_last old new id kept is).history
 freed old new id false kept (none, is) = part old new (same old new kept is)
 
-asked : (old new : Heap) (of_trace : Bool) → IsKept old → new ≡ (if of_trace then swept old else old) → IsHistory old new
+asked : (old new : Heap) (of_trace : Bool) → IsKept old → new ≡ (if of_trace then swept_heap old else old) → IsHistory old new
 asked old new true kept is = part old new (sweeps_once old new kept is)
 asked old new false kept is = part old new (same old new kept is)
 

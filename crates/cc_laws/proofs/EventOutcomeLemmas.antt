@@ -16,10 +16,11 @@ use Rattle.cc_heap.specs.declared.object.Object.{Object}
 use Rattle.cc_heap.specs.declared.outcome.Outcome.{Outcome}
 use Rattle.cc_heap.specs.declared.policy.Policy.{Policy}
 use Rattle.cc_heap.specs.declared.policy.Policy.TheVariants.{Immediate, Never, Percent, Bytes, Frees as AfterFrees, Trace}
-use Rattle.cc_heap.specs.Events.{Allocates, AllocatesUnknown, AttemptsToReplace, ClearsOther, FollowsPolicy, FollowsReplacing, Frees, FreesIfLive, HasNoRoom, IsEvent, KeepsPlace, Moves}
+use Rattle.cc_heap.specs.Events.{AllocatesInHeap, AllocatesUnknown, AttemptsToReplace, ClearsOther, FollowsPolicy, FollowsReplacing}
+use Rattle.cc_heap.specs.Events.{FreesInHeap, FreesIfLive, HasNoRoomInHeap, IsEvent, KeepsPlace, Moves}
 use Rattle.cc_heap.specs.Events.{Reallocates, Remakes, Replaces, ReplacesLive, Tries, TriesToReplace, outcome_of, size_of, swept_if_asked}
-use Rattle.cc_heap.specs.Heap.{Attempts, FreesObject, Heap, KeepsObject, MakesObject, gauge_of, is_made, kept_object, object_under, resized, swept}
-use Rattle.cc_heap.specs.Memory.{held_spans, object_at, start_unit, usage_of}
+use Rattle.cc_heap.specs.Heap.{Attempts, FreesHeapObject, Heap, KeepsHeapObject, MakesHeapObject, gauge_of, is_made, kept_object, object_under, resized, swept_heap}
+use Rattle.cc_heap.specs.Memory.{memory_spans, memory_object, start_unit, usage_of}
 use Rattle.cc_heap.specs.Policy.{AsksForSweep, Gauge, share_of}
 use Rattle.cc_heap.specs.Reallocation.{can_take, is_keep}
 use Rattle.cc_heap.proofs.MemoryLemmas.{found_first}
@@ -44,35 +45,35 @@ pub record Leads {X : Type 0} (P : X → Heap → Type 0) : Type 0 where
 -- ---- the changes
 
 frees_object : (old : Heap) (id : ℕ) (object : Object) (live : List Entry) → IsPermutation old.memory.live ((id, object) ∷ live)
-    → Has (FreesObject old id object)
+    → Has (FreesHeapObject old id object)
 frees_object old id object live takes = record { new = _; is = record { live = live; takes = takes; is_new = refl } }
 
-makes_or_not : (old : Heap) (id requested size : ℕ) → Has (MakesObject old id requested size) ⊎ HasNoRoom old requested size
+makes_or_not : (old : Heap) (id requested size : ℕ) → Has (MakesHeapObject old id requested size) ⊎ HasNoRoomInHeap old requested size
 makes_or_not old id requested size =
-    by_room (dec_lt (length (held_spans old.memory)) old.settings.limit)
-    (placement_or_none old.settings.pool (held_spans old.memory) (padded_size_for old.settings.align size) (start_unit old.settings.align requested size))
+    by_room (dec_lt (length (memory_spans old.memory)) old.settings.limit)
+    (placement_or_none old.settings.pool (memory_spans old.memory) (padded_size_for old.settings.align size) (start_unit old.settings.align requested size))
   where
-    by_room : Dec (length (held_spans old.memory) < old.settings.limit)
-        → HasPlacement old.settings.pool (held_spans old.memory) (padded_size_for old.settings.align size)
+    by_room : Dec (length (memory_spans old.memory) < old.settings.limit)
+        → HasPlacement old.settings.pool (memory_spans old.memory) (padded_size_for old.settings.align size)
         (start_unit old.settings.align requested size)
-        ⊎ HasNoPlace old.settings.pool (held_spans old.memory) (padded_size_for old.settings.align size)
+        ⊎ HasNoPlace old.settings.pool (memory_spans old.memory) (padded_size_for old.settings.align size)
         (start_unit old.settings.align requested size)
-        → Has (MakesObject old id requested size) ⊎ HasNoRoom old requested size
+        → Has (MakesHeapObject old id requested size) ⊎ HasNoRoomInHeap old requested size
     by_room (no many) place = inr (inr (omega (arith, many)))
     by_room (yes few) (inr none) = inr (inl none)
     by_room (yes few) (inl place) = inl (record {
       new = _;
       is = record {
         start = place.start;
-        live = (id, object_at old.settings.align requested place.start size) ∷ old.memory.live;
+        live = (id, memory_object old.settings.align requested place.start size) ∷ old.memory.live;
         few = few;
         placement = place.is;
-        adds = IsPermutation-refl ((id, object_at old.settings.align requested place.start size) ∷ old.memory.live);
+        adds = IsPermutation-refl ((id, memory_object old.settings.align requested place.start size) ∷ old.memory.live);
         is_new = refl;
       };
     })
 
-attempts_none : (old : Heap) (id requested size : ℕ) → HasNoRoom old requested size → Dec (length (held_spans old.memory) < old.settings.limit)
+attempts_none : (old : Heap) (id requested size : ℕ) → HasNoRoomInHeap old requested size → Dec (length (memory_spans old.memory) < old.settings.limit)
     → Leads (Attempts old id requested size)
 attempts_none old id requested size (inl none) (yes few) = record { result = NoRoom; new = old; is = (few, none, refl) }
 attempts_none old id requested size (inr many) (yes few) = absurd (omega (arith, few, many))
@@ -81,14 +82,14 @@ attempts_none old id requested size none (no many) = record { result = Full; new
 attempts : (old : Heap) (id requested size : ℕ) → Leads (Attempts old id requested size)
 attempts old id requested size = elim (makes_or_not old id requested size) [
   | inl made ↦ record { result = Made; new = made.new; is = made.is }
-  | inr none ↦ attempts_none old id requested size none (dec_lt (length (held_spans old.memory)) old.settings.limit)
+  | inr none ↦ attempts_none old id requested size none (dec_lt (length (memory_spans old.memory)) old.settings.limit)
 ]
 
 tries : (old : Heap) (id requested size : ℕ) → Leads (Tries old id requested size)
 tries old id requested size = elim (makes_or_not old id requested size) [
   | inl made ↦ record { result = Made; new = made.new; is = inl (refl, made.is) }
   | inr none ↦
-      let again = attempts (swept old) id requested size in
+      let again = attempts (swept_heap old) id requested size in
       record { result = again.result; new = again.new; is = inr (none, again.is) }
 ]
 
@@ -108,13 +109,13 @@ follows old =
   where
     by_test : Dec (old.settings.least_quarantine ≤ (usage_of old.memory).quarantine) → Dec (AsksForSweep old.settings.policy (gauge_of old))
         → Has (FollowsPolicy old)
-    by_test (yes enough) (yes asks) = record { new = swept old; is = inl (record { enough = enough; asks = asks }, refl) }
+    by_test (yes enough) (yes asks) = record { new = swept_heap old; is = inl (record { enough = enough; asks = asks }, refl) }
     by_test (no little) asks = record { new = old; is = inr (λ must. little must.enough, refl) }
     by_test (yes enough) (no not) = record { new = old; is = inr (λ must. not must.asks, refl) }
 
 -- ---- a free
 
-frees : (old : Heap) (id : ℕ) (object : Object) → object_under old id ≡ Some object → Has (Frees old id)
+frees : (old : Heap) (id : ℕ) (object : Object) → object_under old id ≡ Some object → Has (FreesInHeap old id)
 frees old id object found =
     let freed = frees_object old id object (remove_entry (nat_eq id) old.memory.live) (found_first id object old.memory.live found) in
     let after = follows freed.new in
@@ -132,7 +133,7 @@ frees_if_live old id = by_found (object_under old id) refl
 
 -- ---- an object is made
 
-allocates : (old : Heap) (id requested size : ℕ) → Leads (Allocates old id requested size)
+allocates : (old : Heap) (id requested size : ℕ) → Leads (AllocatesInHeap old id requested size)
 allocates old id requested size =
     let cleared = frees_if_live old id in
     let tried = tries cleared.new id requested size in
@@ -162,10 +163,10 @@ allocates_unknown old id requested size =
 
 -- once an object is made, the one before it is still under the id
 replaces : (old : Heap) (id requested size : ℕ) (before : Object) → object_under old id ≡ Some before
-    → Has (MakesObject old id requested size) → Has (Replaces old id requested size)
+    → Has (MakesHeapObject old id requested size) → Has (Replaces old id requested size)
 replaces old id requested size before found made =
     let makes = made.is in
-    let object = object_at old.settings.align requested makes.start size in
+    let object = memory_object old.settings.align requested makes.start size in
     let rest = remove_entry (nat_eq id) old.memory.live in
     let takes : IsPermutation made.new.memory.live ((id, before) ∷ (id, object) ∷ rest) =
     reordered made.new.memory.live ((id, before) ∷ (id, object) ∷ rest) (λ weight. omega (
@@ -187,7 +188,7 @@ attempts_to_replace : (old : Heap) (id requested size : ℕ) (before : Object) �
     → Leads (AttemptsToReplace old id requested size)
 attempts_to_replace old id requested size before found = by_attempt (makes_or_not old id requested size)
   where
-    refused : Leads (Attempts old id requested size) → HasNoRoom old requested size → Leads (AttemptsToReplace old id requested size)
+    refused : Leads (Attempts old id requested size) → HasNoRoomInHeap old requested size → Leads (AttemptsToReplace old id requested size)
     refused attempt none = by_result attempt.result attempt.is
       where
         by_result : (making : Making) → Attempts old id requested size making attempt.new → Leads (AttemptsToReplace old id requested size)
@@ -197,7 +198,7 @@ attempts_to_replace old id requested size before found = by_attempt (makes_or_no
         by_result NoRoom is = record { result = NoRoom; new = attempt.new; is = is }
         by_result Full is = record { result = Full; new = attempt.new; is = is }
 
-    by_attempt : Has (MakesObject old id requested size) ⊎ HasNoRoom old requested size → Leads (AttemptsToReplace old id requested size)
+    by_attempt : Has (MakesHeapObject old id requested size) ⊎ HasNoRoomInHeap old requested size → Leads (AttemptsToReplace old id requested size)
     by_attempt (inl made) =
         let other = replaces old id requested size before found made in record { result = Made; new = other.new; is = other.is }
     by_attempt (inr none) = refused (attempts old id requested size) none
@@ -209,7 +210,7 @@ tries_to_replace old id requested size before found = elim (makes_or_not old id 
       let other = replaces old id requested size before found made in
       record { result = Made; new = other.new; is = inl (refl, other.is) }
   | inr none ↦
-      let again = attempts_to_replace (swept old) id requested size before found in
+      let again = attempts_to_replace (swept_heap old) id requested size before found in
       record { result = again.result; new = again.new; is = inr (none, again.is) }
 ]
 
@@ -247,7 +248,7 @@ other_first : (id key : ℕ) (object : Object) (entries : List Entry) → (id �
 other_first id key object entries differ =
     ap (λ (b : Bool). cond b (Some object) (lookup (nat_eq id) entries)) (other_key key id (λ same. differ (sym same)))
 
-frees_other : (old new : Heap) (id other : ℕ) → AreOnceIn old.memory.live → (other ≡ id → ⊥) → Frees old id new
+frees_other : (old new : Heap) (id other : ℕ) → AreOnceIn old.memory.live → (other ≡ id → ⊥) → FreesInHeap old id new
     → object_under new other ≡ object_under old other
 frees_other old new id other once differ freed =
     let first = freed.frees in
@@ -265,10 +266,10 @@ clears_other_id : (old new : Heap) (id other : ℕ) (was_live : Bool) → AreOnc
 clears_other_id old new id other true once differ freed = frees_other old new id other once differ freed
 clears_other_id old new id other false once differ (none, is) = ap (λ (h : Heap). object_under h other) is
 
-makes_other : (old new : Heap) (id other requested size : ℕ) → IsOnceWithout id old → (other ≡ id → ⊥) → MakesObject old id requested size new
+makes_other : (old new : Heap) (id other requested size : ℕ) → IsOnceWithout id old → (other ≡ id → ⊥) → MakesHeapObject old id requested size new
     → object_under new other ≡ object_under old other
 makes_other old new id other requested size without differ made =
-    let object = object_at old.settings.align requested made.start size in
+    let object = memory_object old.settings.align requested made.start size in
     let once : AreOnceIn made.live = subst (λ (h : Heap). AreOnceIn h.memory.live) made.is_new (makes_once old new id requested size without made) in
     let along = lookup_along other made.live ((id, object) ∷ old.memory.live) once (λ weight.
     sym (sum_by-IsPermutation weight ((id, object) ∷ old.memory.live) made.live made.adds)) in
@@ -285,10 +286,10 @@ tries_other : (old new : Heap) (id other requested size : ℕ) (making : Making)
 tries_other old new id other requested size making without differ (inl (is, made)) =
     makes_other old new id other requested size without differ made
 tries_other old new id other requested size making without differ (inr (none, again)) =
-    attempts_other (swept old) new id other requested size making (without_along id old (swept old) (λ weight. refl) without) differ again
+    attempts_other (swept_heap old) new id other requested size making (without_along id old (swept_heap old) (λ weight. refl) without) differ again
 
 allocates_other : (old new : Heap) (id other requested size : ℕ) (outcome : Outcome) → AreOnceIn old.memory.live → (other ≡ id → ⊥)
-    → Allocates old id requested size outcome new → object_under new other ≡ object_under old other
+    → AllocatesInHeap old id requested size outcome new → object_under new other ≡ object_under old other
 allocates_other old new id other requested size outcome once differ made =
     let without = clears_without old made.cleared id made.was_live once made.clears in
     tries_other made.cleared new id other requested size made.making without differ made.tries
@@ -332,7 +333,7 @@ cleared_settings old new from to was_live (inl (same, not, is)) = ap (λ (h : He
 cleared_settings old new from to was_live (inr (differ, freed)) = free_settings old new to was_live freed
 
 keeps_object : (old : Heap) (from to : ℕ) (object : Object) (requested size : ℕ) → object_under old from ≡ Some object
-    → can_take old.settings.align requested size object.span ≡ true → Has (KeepsObject old from to object requested size)
+    → can_take old.settings.align requested size object.span ≡ true → Has (KeepsHeapObject old from to object requested size)
 keeps_object old from to object requested size found fits =
     let rest = remove_entry (nat_eq from) old.memory.live in
     let other = resized object requested size in

@@ -8,7 +8,7 @@ use Rattle.cc_heap.specs.declared.settings.Settings.{Settings}
 use Rattle.cc_heap.specs.declared.sizes.SizeTotals.{SizeTotals}
 use Rattle.cc_heap.specs.declared.totals.Totals.{Totals}
 use Rattle.cc_heap.specs.Events.{outcome_of}
-use Rattle.cc_heap.specs.Heap.{Heap, empty_heap, no_totals, swept}
+use Rattle.cc_heap.specs.Heap.{Heap, empty_heap, no_totals, swept_heap}
 use Rattle.cc_heap.specs.Lost.{HasSizes, RunState, RunsNoting, empty_run}
 use Rattle.cc_heap.specs.Peaks.{HasPeaks}
 use Rattle.cc_heap.specs.Run.{HasTotals, Moment, greatest, usage_in}
@@ -64,7 +64,7 @@ live-breaks settings one alike =
     let same = length_permutation [] ((1, one) ∷ []) alike.live in
     absurd (omega (arith, same))
 
-pub totals-break : (settings : Settings) → ¬ AreAlike (empty_heap settings) (swept (empty_heap settings))
+pub totals-break : (settings : Settings) → ¬ AreAlike (empty_heap settings) (swept_heap (empty_heap settings))
 totals-break settings alike =
     let same : 1 ≡ 0 = ap (λ (t : Totals). t.sweeps) alike.totals in
     absurd (omega (arith, same))

@@ -24,7 +24,7 @@ use Rattle.cc_heap.specs.declared.settings.Settings.{Settings}
 use Rattle.cc_heap.specs.declared.usage.Usage.{Usage}
 use Rattle.cc_heap.specs.Heap.{Heap, empty_heap}
 use Rattle.cc_heap.specs.Lost.{empty_run}
-use Rattle.cc_heap.specs.Memory.{Memory, held_spans as heap_spans, span_of, usage_of}
+use Rattle.cc_heap.specs.Memory.{Memory, memory_spans as heap_spans, object_span, usage_of}
 use Rattle.cc_heap.specs.Run.{Runs}
 use Rattle.cc_replay.specs.Replay.{ReplayState, TakesLine, TakesRest, begun, events_in}
 use Rattle.cc_replay.specs.Changes.{AreChangesOf, Change}
@@ -46,7 +46,7 @@ held-bytes memory state same =
     omega (
       arith,
       sum_by-IsPermutation length_of (held_spans state) (heap_spans memory) same,
-      sum_by-append length_of (map span_of memory.live) memory.quarantined,
+      sum_by-append length_of (map object_span memory.live) memory.quarantined,
       sum_spans length_of memory.live,
     )
 

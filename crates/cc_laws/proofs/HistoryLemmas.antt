@@ -14,23 +14,24 @@ use Rattle.cc_heap.specs.declared.settings.Settings.{Settings}
 use Rattle.cc_heap.specs.declared.totals.Totals.{Totals}
 use Rattle.cc_heap.specs.declared.usage.Usage.{Usage}
 use Rattle.cc_heap.specs.Totals.{inexact_of, with_made, with_sweep, with_usage}
-use Rattle.cc_heap.specs.Memory.{object_at, usage_of}
+use Rattle.cc_heap.specs.Memory.{memory_object, usage_of}
 use Rattle.cc_heap.specs.Policy.{is_of_the_trace}
-use Rattle.cc_heap.specs.Heap.{Attempts, FreesObject, Heap, KeepsObject, MakesObject, empty_heap, kept_object, swept}
-use Rattle.cc_heap.specs.Events.{Allocates, AttemptsToReplace, ClearsOther, FollowsPolicy, FollowsReplacing, Frees, FreesIfLive, IsEvent, KeepsPlace, Reallocates, Remakes, Replaces, ReplacesLive}
+use Rattle.cc_heap.specs.Heap.{Attempts, FreesHeapObject, Heap, KeepsHeapObject, MakesHeapObject, empty_heap, kept_object, swept_heap}
+use Rattle.cc_heap.specs.Events.{AllocatesInHeap, AttemptsToReplace, ClearsOther, FollowsPolicy, FollowsReplacing, FreesInHeap}
+use Rattle.cc_heap.specs.Events.{FreesIfLive, IsEvent, KeepsPlace, Reallocates, Remakes, Replaces, ReplacesLive}
 use Rattle.cc_heap.specs.Events.{Tries, TriesToReplace}
-use Rattle.cc_heap.specs.Run.{ArePassedBy, HasTotals, IsFreeing, IsKeeping, IsMaking, IsSweeping, Moment, Passes, Runs, greatest, of_made, of_swept, totals_after, usage_in}
+use Rattle.cc_heap.specs.Run.{ArePassedBy, HasTotals, IsFreeing, IsKeeping, IsMaking, IsSweeping, Moment, PassesEvent, Runs, greatest, of_made, of_swept, totals_after, usage_in}
 
 -- ---- the changes that an event is
 
 -- some states lie between two heaps
 pub record HasHistory (old new : Heap) : Type 0 where
   pub moments : List Moment
-  pub passes : Passes old moments new
+  pub passes : PassesEvent old moments new
 
-pub joined : (old between new : Heap) (moments others : List Moment) → Passes old moments between
-    → Passes between others new → Passes old (moments ++ others) new
-joined old between new [] others same rest = subst (λ (h : Heap). Passes h others new) same rest
+pub joined : (old between new : Heap) (moments others : List Moment) → PassesEvent old moments between
+    → PassesEvent between others new → PassesEvent old (moments ++ others) new
+joined old between new [] others same rest = subst (λ (h : Heap). PassesEvent h others new) same rest
 joined old between new (moment ∷ moments) others (next, change, passes) rest =
     (next, change, joined next between new moments others passes rest)
 
@@ -43,23 +44,23 @@ follow old between new first other = record {
 same : (old new : Heap) → new ≡ old → HasHistory old new
 same old new is = record { moments = []; passes = is }
 
-makes : (old new : Heap) (id requested size : ℕ) → MakesObject old id requested size new → HasHistory old new
+makes : (old new : Heap) (id requested size : ℕ) → MakesHeapObject old id requested size new → HasHistory old new
 makes old new id requested size made = record {
   moments = record {
     memory = new.memory;
-    made = Some (object_at old.settings.align requested made.start size);
+    made = Some (memory_object old.settings.align requested made.start size);
     swept = None;
   } ∷ [];
   passes = (new, inl (record { id = id; requested = requested; size = size; makes = made; is = refl }), refl);
 }
 
-frees_object : (old new : Heap) (id : ℕ) (object : Object) → FreesObject old id object new → HasHistory old new
+frees_object : (old new : Heap) (id : ℕ) (object : Object) → FreesHeapObject old id object new → HasHistory old new
 frees_object old new id object freed = record {
   moments = record { memory = new.memory; made = None; swept = None } ∷ [];
   passes = (new, inr (inl (record { id = id; object = object; frees = freed; is = refl })), refl);
 }
 
-sweeps : (old new : Heap) → new ≡ swept old → HasHistory old new
+sweeps : (old new : Heap) → new ≡ swept_heap old → HasHistory old new
 sweeps old new is = record {
   moments = record { memory = new.memory; made = None; swept = Some (usage_of old.memory).quarantine } ∷ [];
   passes = (new, inr (inr (inl (record { sweeps = is; is = refl }))), refl);
@@ -69,7 +70,7 @@ follows : (old new : Heap) → FollowsPolicy old new → HasHistory old new
 follows old new (inl (must, is)) = sweeps old new is
 follows old new (inr (not, is)) = same old new is
 
-frees : (old new : Heap) (id : ℕ) → Frees old id new → HasHistory old new
+frees : (old new : Heap) (id : ℕ) → FreesInHeap old id new → HasHistory old new
 frees old new id freed =
     follow old freed.freed new (frees_object old freed.freed id freed.object freed.frees)
     (follows freed.freed new freed.follows)
@@ -88,9 +89,9 @@ tries : (old new : Heap) (id requested size : ℕ) (making : Making) → Tries o
     → HasHistory old new
 tries old new id requested size making (inl (is, made)) = makes old new id requested size made
 tries old new id requested size making (inr (none, again)) =
-    follow old (swept old) new (sweeps old (swept old) refl) (attempts (swept old) new id requested size making again)
+    follow old (swept_heap old) new (sweeps old (swept_heap old) refl) (attempts (swept_heap old) new id requested size making again)
 
-allocates : (old new : Heap) (id requested size : ℕ) (outcome : Outcome) → Allocates old id requested size outcome new
+allocates : (old new : Heap) (id requested size : ℕ) (outcome : Outcome) → AllocatesInHeap old id requested size outcome new
     → HasHistory old new
 allocates old new id requested size outcome is =
     follow old is.cleared new (frees_if_live old is.cleared id is.was_live is.clears)
@@ -111,8 +112,8 @@ tries_to_replace : (old new : Heap) (id requested size : ℕ) (making : Making)
     → TriesToReplace old id requested size making new → HasHistory old new
 tries_to_replace old new id requested size making (inl (is, replaced)) = replaces old new id requested size replaced
 tries_to_replace old new id requested size making (inr (none, again)) =
-    follow old (swept old) new (sweeps old (swept old) refl)
-    (attempts_to_replace (swept old) new id requested size making again)
+    follow old (swept_heap old) new (sweeps old (swept_heap old) refl)
+    (attempts_to_replace (swept_heap old) new id requested size making again)
 
 follows_replacing : (old new : Heap) (id : ℕ) (making : Making) → FollowsReplacing old id making new
     → HasHistory old new
@@ -137,7 +138,7 @@ remakes old new from to requested size outcome (inr (live, inr (two, is))) =
     (frees is.made new from is.frees)
 
 keeps_object : (old new : Heap) (from to : ℕ) (before : Object) (requested size : ℕ)
-    → KeepsObject old from to before requested size new → HasHistory old new
+    → KeepsHeapObject old from to before requested size new → HasHistory old new
 keeps_object old new from to before requested size kept = record {
   moments = record { memory = new.memory; made = None; swept = None } ∷ [];
   passes = (
@@ -166,7 +167,7 @@ reallocates old new from to requested size outcome is = by (kept_object old from
     by None is = remakes old new from to requested size outcome is
     by (Some object) is = keeps_place old new from to object requested size outcome is
 
-asked : (old new : Heap) (of_trace : Bool) → new ≡ (if of_trace then swept old else old) → HasHistory old new
+asked : (old new : Heap) (of_trace : Bool) → new ≡ (if of_trace then swept_heap old else old) → HasHistory old new
 asked old new true is = sweeps old new is
 asked old new false is = same old new is
 
@@ -181,7 +182,7 @@ event old new (Clock time) outcome (is, told) = same old new is
 -- the states that events pass
 record HasPassed (old : Heap) (events : List Event) (new : Heap) : Type 0 where
   moments : List Moment
-  passes : Passes old moments new
+  passes : PassesEvent old moments new
   passed : ArePassedBy old events moments new
 
 runs : (old new : Heap) (events : List Event) → Runs old events new → HasPassed old events new
@@ -374,11 +375,11 @@ makes_step old moment next capped made = record {
   settings = ap (λ (h : Heap). h.settings) made.makes.is_new;
   totals = ap (λ (h : Heap). h.totals) made.makes.is_new
       ∙ ap (λ (u : Usage). with_made old.totals
-      (object_at old.settings.align made.requested made.makes.start made.size)
-      ((object_at old.settings.align made.requested made.makes.start made.size).span.top - old.settings.pool.base) u)
+      (memory_object old.settings.align made.requested made.makes.start made.size)
+      ((memory_object old.settings.align made.requested made.makes.start made.size).span.top - old.settings.pool.base) u)
       (sym (ap (λ (h : Heap). usage_of h.memory) made.makes.is_new) ∙ sym (ap usage_in made.is))
       ∙ after_making old.settings.pool old.totals moment
-      (object_at old.settings.align made.requested made.makes.start made.size) capped
+      (memory_object old.settings.align made.requested made.makes.start made.size) capped
       (ap (λ (m : Moment). m.made) made.is) (ap (λ (m : Moment). m.swept) made.is);
 }
 
@@ -427,7 +428,7 @@ record IsAfter (old : Heap) (moments : List Moment) (new : Heap) : Type 0 where
   settings : new.settings ≡ old.settings
   totals : new.totals ≡ totals_after old.settings.pool old.totals moments
 
-passed : (old new : Heap) (moments : List Moment) → IsCapped old.totals → Passes old moments new
+passed : (old new : Heap) (moments : List Moment) → IsCapped old.totals → PassesEvent old moments new
     → IsAfter old moments new
 passed old new [] capped is = record {
   settings = ap (λ (h : Heap). h.settings) is;

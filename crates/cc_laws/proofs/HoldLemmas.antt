@@ -14,7 +14,7 @@ use Rattle.cc_plan.specs.declared.planned_object.PlannedObject.{PlannedObject}
 use Rattle.cc_plan.specs.Plan.{plan_spans as planned_spans, is_freed, plan_swept as planned_swept}
 use Rattle.cc_plan.proofs.HeldSpanLemmas.{as_freed, held_weight, sum_held}
 use Rattle.cc_heap.specs.declared.object.Object.{Object}
-use Rattle.cc_heap.specs.Memory.{Memory, held_spans, span_of}
+use Rattle.cc_heap.specs.Memory.{Memory, memory_spans, object_span}
 use Rattle.cc_replay.specs.Operations.{Numbers, with_number}
 use Rattle.cc_replay.specs.Kept.{id_weight}
 use Rattle.cc_replay.proofs.EntryLemmas.{HasOneMore, itself, once_more}
@@ -226,7 +226,7 @@ live_found weight before (object ∷ objects) some =
 
 -- an entry of a heap, by the number of its id and its span
 abbrev pub entry_weight : Numbers → (ℕ → Span → ℕ) → ℕ × Object → ℕ
-entry_weight numbers weight entry = weight (numbers.number_of entry.0) (span_of entry)
+entry_weight numbers weight entry = weight (numbers.number_of entry.0) (object_span entry)
 
 -- the objects of the plan are live and freed as those of the memory, and those under ids have their numbers
 pub record HoldAlike (numbers : Numbers) (memory : Memory) (objects : List PlannedObject) : Type 0 where
@@ -236,29 +236,29 @@ pub record HoldAlike (numbers : Numbers) (memory : Memory) (objects : List Plann
   pub ids : (id : ℕ) → sum_by (id_weight id) memory.live ≤ 1
 
 sum_spans : (weight : Span → ℕ) (entries : List (ℕ × Object))
-    → sum_by weight (map span_of entries) ≡ sum_by (λ (entry : ℕ × Object). weight (span_of entry)) entries
+    → sum_by weight (map object_span entries) ≡ sum_by (λ (entry : ℕ × Object). weight (object_span entry)) entries
 sum_spans weight [] = refl
 sum_spans weight (entry ∷ entries) =
     let rest = sum_spans weight entries in
     omega (
       arith,
       rest,
-      sum_by-cons weight (span_of entry) (map span_of entries),
-      sum_by-cons (λ (e : ℕ × Object). weight (span_of e)) entry entries,
+      sum_by-cons weight (object_span entry) (map object_span entries),
+      sum_by-cons (λ (e : ℕ × Object). weight (object_span e)) entry entries,
     )
 
 pub hold_same_spans : (numbers : Numbers) (memory : Memory) (objects : List PlannedObject)
-    → HoldAlike numbers memory objects → HaveSameSpans (held_spans memory) (planned_spans objects)
+    → HoldAlike numbers memory objects → HaveSameSpans (memory_spans memory) (planned_spans objects)
 hold_same_spans numbers memory objects alike =
-    permutation_from_sums (map span_of memory.live ++ memory.quarantined) (planned_spans objects) (λ weight.
-    let live : sum_by (λ (entry : ℕ × Object). weight (span_of entry)) memory.live ≡ live_sum (λ n s. weight s) 0 objects =
+    permutation_from_sums (map object_span memory.live ++ memory.quarantined) (planned_spans objects) (λ weight.
+    let live : sum_by (λ (entry : ℕ × Object). weight (object_span entry)) memory.live ≡ live_sum (λ n s. weight s) 0 objects =
     alike.live (λ n s. weight s) in
     let parts : sum_by (held_weight weight) objects
     ≡ live_sum (λ n s. weight s) 0 objects + sum_by (freed_weight weight) objects =
     held_parts weight 0 objects in
     omega (
       arith,
-      sum_by-append weight (map span_of memory.live) memory.quarantined,
+      sum_by-append weight (map object_span memory.live) memory.quarantined,
       sum_spans weight memory.live,
       live,
       alike.freed weight,

@@ -16,13 +16,14 @@ use Rattle.cc_heap.specs.declared.outcome.Outcome.{Outcome}
 use Rattle.cc_heap.specs.declared.settings.Settings.{Settings}
 use Rattle.cc_heap.specs.declared.sizes.SizeTotals.{SizeTotals}
 use Rattle.cc_heap.specs.Totals.{inexact_of}
-use Rattle.cc_heap.specs.Memory.{object_at, usage_of}
+use Rattle.cc_heap.specs.Memory.{memory_object, usage_of}
 use Rattle.cc_heap.specs.Policy.{is_of_the_trace}
-use Rattle.cc_heap.specs.Heap.{Attempts, FreesObject, Heap, KeepsObject, MakesObject, empty_heap, kept_object, swept}
-use Rattle.cc_heap.specs.Events.{Allocates, AttemptsToReplace, ClearsOther, FollowsPolicy, FollowsReplacing, Frees, FreesIfLive, IsEvent, KeepsPlace, Reallocates, Remakes, Replaces, ReplacesLive}
+use Rattle.cc_heap.specs.Heap.{Attempts, FreesHeapObject, Heap, KeepsHeapObject, MakesHeapObject, empty_heap, kept_object, swept_heap}
+use Rattle.cc_heap.specs.Events.{AllocatesInHeap, AttemptsToReplace, ClearsOther, FollowsPolicy, FollowsReplacing, FreesInHeap}
+use Rattle.cc_heap.specs.Events.{FreesIfLive, IsEvent, KeepsPlace, Reallocates, Remakes, Replaces, ReplacesLive}
 use Rattle.cc_heap.specs.Events.{Tries, TriesToReplace}
-use Rattle.cc_heap.specs.Run.{ArePassedBy, Moment, Passes}
-use Rattle.cc_heap.specs.Sizes.{is_of_power, made_size, no_objects, no_sizes, of_size, sizes_after, with_made_size, with_object, with_size}
+use Rattle.cc_heap.specs.Run.{ArePassedBy, Moment, PassesEvent}
+use Rattle.cc_heap.specs.Sizes.{is_of_power, made_size, no_objects, no_sizes, of_size, sizes_after, with_made_size, with_sized_object, with_size}
 use Rattle.cc_heap.specs.Lost.{HasSizes, IsRunEvent, RunState, RunsNoting, empty_run}
 use Rattle.cc_laws.proofs.HistoryLemmas.{capped_more, capped_same, joined}
 
@@ -55,14 +56,14 @@ rows_joined power totals moments others = λ i. record {
 
 -- the row with an object, if one of its power was made
 abbrev row_with : (power : ℕ) → Align → Option ℕ → SizeTotals → SizeTotals
-row_with power align (Some size) totals = if is_of_power power size then with_object size (padded_size_for align size) totals else totals
+row_with power align (Some size) totals = if is_of_power power size then with_sized_object size (padded_size_for align size) totals else totals
 row_with power align None totals = totals
 
 -- ---- the objects that a change makes
 
 record HasMade (made : Option ℕ) (old new : Heap) : Type 0 where
   moments : List Moment
-  passes : Passes old moments new
+  passes : PassesEvent old moments new
   settings : new.settings ≡ old.settings
   row : (power : ℕ) (totals : SizeTotals) → IsCappedRow totals → sizes_after power totals moments ≡ row_with power old.settings.align made totals
 
@@ -82,7 +83,7 @@ none_made : (power : ℕ) (moment : Moment) (totals : SizeTotals) → moment.mad
 none_made power moment totals is capped = rw is (no_moments power totals capped)
 
 one_made : (power start size padded requested : ℕ) (align : Align) (moment : Moment) (totals : SizeTotals) → padded ≡ padded_size_for align size
-    → moment.made ≡ Some (object_at align requested start size) → IsCappedRow totals
+    → moment.made ≡ Some (memory_object align requested start size) → IsCappedRow totals
     → sizes_after power totals (moment ∷ []) ≡ row_with power align (Some size) totals
 one_made power start size padded requested align moment totals padded_is is capped = rw is (by (is_of_power power size)) where
   long : start + padded_size_for align size - start ≡ padded_size_for align size
@@ -90,10 +91,10 @@ one_made power start size padded requested align moment totals padded_is is capp
 
   by : (b : Bool) → record {
     made = min (totals.made + (0 + (if b then 1 else 0))) (2 ^ 64 - 1);
-    inexact = min (totals.inexact + (0 + (if b then inexact_of (object_at align requested start size) else 0))) (2 ^ 64 - 1);
+    inexact = min (totals.inexact + (0 + (if b then inexact_of (memory_object align requested start size) else 0))) (2 ^ 64 - 1);
     asked = min (totals.asked + (0 + (if b then size else 0))) (2 ^ 128 - 1);
     padded = min (totals.padded + (0 + (if b then start + padded_size_for align size - start else 0))) (2 ^ 128 - 1);
-  } ≡ (if b then with_object size (padded_size_for align size) totals else totals)
+  } ≡ (if b then with_sized_object size (padded_size_for align size) totals else totals)
   by true = λ i. record {
     made = min (totals.made + 1) (2 ^ 64 - 1);
     inexact = min (totals.inexact
@@ -112,11 +113,11 @@ same old new is = record {
   row = no_moments;
 }
 
-makes : (old new : Heap) (id requested size : ℕ) → MakesObject old id requested size new → HasMade (Some size) old new
+makes : (old new : Heap) (id requested size : ℕ) → MakesHeapObject old id requested size new → HasMade (Some size) old new
 makes old new id requested size made =
     let moment : Moment = record {
       memory = new.memory;
-      made = Some (object_at old.settings.align requested made.start size);
+      made = Some (memory_object old.settings.align requested made.start size);
       swept = None;
     } in
     record {
@@ -127,7 +128,7 @@ makes old new id requested size made =
           one_made power made.start size (padded_size_for old.settings.align size) requested old.settings.align moment totals refl refl capped;
     }
 
-frees_object : (old new : Heap) (id : ℕ) (object : Object) → FreesObject old id object new → HasMade None old new
+frees_object : (old new : Heap) (id : ℕ) (object : Object) → FreesHeapObject old id object new → HasMade None old new
 frees_object old new id object freed =
     let moment : Moment = record { memory = new.memory; made = None; swept = None } in
     record {
@@ -137,7 +138,7 @@ frees_object old new id object freed =
       row = λ power totals capped. none_made power moment totals refl capped;
     }
 
-sweeps : (old new : Heap) → new ≡ swept old → HasMade None old new
+sweeps : (old new : Heap) → new ≡ swept_heap old → HasMade None old new
 sweeps old new is =
     let moment : Moment = record { memory = new.memory; made = None; swept = Some (usage_of old.memory).quarantine } in
     record {
@@ -181,7 +182,7 @@ follows : (old new : Heap) → FollowsPolicy old new → HasMade None old new
 follows old new (inl (must, is)) = sweeps old new is
 follows old new (inr (not, is)) = same old new is
 
-frees : (old new : Heap) (id : ℕ) → Frees old id new → HasMade None old new
+frees : (old new : Heap) (id : ℕ) → FreesInHeap old id new → HasMade None old new
 frees old new id freed =
     later old freed.freed new None (frees_object old freed.freed id freed.object freed.frees) (follows freed.freed new freed.follows)
 
@@ -200,7 +201,7 @@ tries : (old new : Heap) (id requested size : ℕ) (making : Making) → Tries o
 tries old new id requested size making (inl (is, made)) =
     subst (λ (m : Making). HasMade (made_by m size) old new) (sym is) (makes old new id requested size made)
 tries old new id requested size making (inr (none, again)) =
-    later old (swept old) new (made_by making size) (sweeps old (swept old) refl) (attempts (swept old) new id requested size making again)
+    later old (swept_heap old) new (made_by making size) (sweeps old (swept_heap old) refl) (attempts (swept_heap old) new id requested size making again)
 
 -- the size of the object that an event makes, by what came of it
 abbrev told_size : Outcome → (size : ℕ) → Option ℕ
@@ -209,7 +210,7 @@ told_size told size = by told.making where
   by (Some making) = made_by making size
   by None = None
 
-allocates : (old new : Heap) (id requested size : ℕ) (told : Outcome) → Allocates old id requested size told new
+allocates : (old new : Heap) (id requested size : ℕ) (told : Outcome) → AllocatesInHeap old id requested size told new
     → HasMade (told_size told size) old new
 allocates old new id requested size told is =
     subst (λ (o : Outcome). HasMade (told_size o size) old new) (sym is.is_told)
@@ -231,8 +232,8 @@ tries_to_replace : (old new : Heap) (id requested size : ℕ) (making : Making)
 tries_to_replace old new id requested size making (inl (is, replaced)) =
     subst (λ (m : Making). HasMade (made_by m size) old new) (sym is) (replaces old new id requested size replaced)
 tries_to_replace old new id requested size making (inr (none, again)) =
-    later old (swept old) new (made_by making size) (sweeps old (swept old) refl)
-    (attempts_to_replace (swept old) new id requested size making again)
+    later old (swept_heap old) new (made_by making size) (sweeps old (swept_heap old) refl)
+    (attempts_to_replace (swept_heap old) new id requested size making again)
 
 follows_replacing : (old new : Heap) (id : ℕ) (making : Making) → FollowsReplacing old id making new → HasMade None old new
 follows_replacing old new id Made is = follows old new is
@@ -255,7 +256,7 @@ remakes old new from to requested size told (inr (live, inr (two, is))) =
     before old is.made new (told_size told size) (allocates old is.made to requested size told is.allocates) (frees is.made new from is.frees)
 
 keeps_object : (old new : Heap) (from to : ℕ) (object : Object) (requested size : ℕ)
-    → KeepsObject old from to object requested size new → HasMade None old new
+    → KeepsHeapObject old from to object requested size new → HasMade None old new
 keeps_object old new from to object requested size kept =
     let moment : Moment = record { memory = new.memory; made = None; swept = None } in
     record {
@@ -289,7 +290,7 @@ reallocates old new from to requested size told is = by (kept_object old from re
     by None is = remakes old new from to requested size told is
     by (Some object) is = keeps_place old new from to object requested size told is
 
-asked : (old new : Heap) (of_trace : Bool) → new ≡ (if of_trace then swept old else old) → HasMade None old new
+asked : (old new : Heap) (of_trace : Bool) → new ≡ (if of_trace then swept_heap old else old) → HasMade None old new
 asked old new true is = sweeps old new is
 asked old new false is = same old new is
 
@@ -336,15 +337,15 @@ event_made old new (Clock time) told (is, told_is) =
 -- ---- the rows of all sizes
 
 row_of : (power at size padded : ℕ) (rows : List SizeTotals) (d : SizeTotals) → at < length rows
-    → get_or (with_size power size padded rows) at d ≡ (if is_of_power (power + at) size then with_object size padded (get_or rows at d) else get_or rows at d)
+    → get_or (with_size power size padded rows) at d ≡ (if is_of_power (power + at) size then with_sized_object size padded (get_or rows at d) else get_or rows at d)
 row_of power at size padded [] d within = absurd (omega (arith, within))
 row_of power zero size padded (row ∷ rows) d within =
     let here : power ≡ power + 0 = omega arith in
-    ap (λ (p : ℕ). if is_of_power p size then with_object size padded row else row) here
+    ap (λ (p : ℕ). if is_of_power p size then with_sized_object size padded row else row) here
 row_of power (suc at) size padded (row ∷ rows) d within =
     let next : power + 1 + at ≡ power + suc at = omega arith in
     row_of (power + 1) at size padded rows d (omega (arith, within))
-    ∙ ap (λ (p : ℕ). if is_of_power p size then with_object size padded (get_or rows at d) else get_or rows at d) next
+    ∙ ap (λ (p : ℕ). if is_of_power p size then with_sized_object size padded (get_or rows at d) else get_or rows at d) next
 
 with_size_length : (power size padded : ℕ) (rows : List SizeTotals) → length (with_size power size padded rows) ≡ length rows
 with_size_length power size padded [] = refl
@@ -359,7 +360,7 @@ made_row : (power : ℕ) (align : Align) (made : Option ℕ) (rows : List SizeTo
 made_row power align (Some size) rows within =
     let here : 0 + power ≡ power = omega arith in
     row_of 0 power size (padded_size_for align size) rows no_objects within
-    ∙ ap (λ (p : ℕ). if is_of_power p size then with_object size (padded_size_for align size) (get_or rows power no_objects) else get_or rows power no_objects) here
+    ∙ ap (λ (p : ℕ). if is_of_power p size then with_sized_object size (padded_size_for align size) (get_or rows power no_objects) else get_or rows power no_objects) here
 made_row power align None rows within = refl
 
 -- the rows after a number of events

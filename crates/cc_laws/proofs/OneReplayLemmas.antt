@@ -21,9 +21,9 @@ use Rattle.cc_heap.specs.Lost.{RunState, empty_run}
 use Rattle.cc_heap.specs.Memory.{usage_of}
 use Rattle.cc_heap.specs.Outcomes.{is_refused}
 use Rattle.cc_replay.specs.declared.summary.Figures.{Figures}
-use Rattle.cc_replay.specs.Counts.{with_event, with_outcome, with_refusal}
+use Rattle.cc_replay.specs.Counts.{with_counted_event, with_outcome, with_refusal}
 use Rattle.cc_replay.specs.Replay.{ReplayState, TakesEvent, TakesLine, TakesRest, at_entry, begun, figures_of, replaying, sample_text, time_after}
-use Rattle.cc_replay.specs.Taking.{Passes, Refuses, TakesEntry, TakesLineIn, TakesRestIn, next_entry}
+use Rattle.cc_replay.specs.Taking.{Passes, RefusesEntry, TakesEntry, TakesLineIn, TakesRestIn, next_entry}
 use Rattle.cc_replay.specs.Rows.{values_line}
 use Rattle.cc_replay.specs.Summary.{sample_rows}
 use Rattle.cc_laws.specs.OneOutcome.{AreAlikeReplays, AreAlikeRuns}
@@ -86,7 +86,7 @@ passes old new another run text told is_error is_told once alike (none, not, is)
 }
 
 refuses : (old new another : ReplayState) (run : RunState) (refusal : Refusal) (text told : List ℕ) (is_error is_told : Bool) → IsOnce old
-    → AreAlikeRuns old.run run → Refuses (replaying.refused refusal old) text is_error new → Refuses (replaying.refused refusal (re run old)) told is_told another
+    → AreAlikeRuns old.run run → RefusesEntry (replaying.refused refusal old) text is_error new → RefusesEntry (replaying.refused refusal (re run old)) told is_told another
     → IsOneAnswer text told is_error is_told new another
 refuses old new another run refusal text told is_error is_told once alike first second = record {
   same_text = second.text_is ∙ sym first.text_is;
@@ -108,10 +108,10 @@ takes_event old new another run event text told is_error is_told once alike firs
     let after = ap (λ (t : Totals). t.sweeps) one.alike.heap.totals in
     let state : Outcome → ℕ → ℕ → ReplayState = λ outcome swept_before swept_after. record old {
       run = second.run;
-      counts = with_outcome outcome (with_event event old.counts);
+      counts = with_outcome outcome (with_counted_event event old.counts);
       time = time_after event old.time;
       progress = progress_after old.reading (is_refused outcome);
-      is_sampled = is_due old.reading (with_event event old.counts).events swept_before swept_after;
+      is_sampled = is_due old.reading (with_counted_event event old.counts).events swept_before swept_after;
     } in
     let moved : another ≡ re second.run new =
     second.is_new ∙ (λ i. state (one.same i) (before i) (after i)) ∙ ap (re second.run) (sym first.is_new) in
@@ -308,10 +308,10 @@ entry_leads old (Ok (Some event)) once left =
       is_error = is_refused made.outcome;
       new = record old {
         run = made.new;
-        counts = with_outcome made.outcome (with_event event old.counts);
+        counts = with_outcome made.outcome (with_counted_event event old.counts);
         time = time_after event old.time;
         progress = progress_after old.reading (is_refused made.outcome);
-        is_sampled = is_due old.reading (with_event event old.counts).events old.run.heap.totals.sweeps made.new.heap.totals.sweeps;
+        is_sampled = is_due old.reading (with_counted_event event old.counts).events old.run.heap.totals.sweeps made.new.heap.totals.sweeps;
       };
       takes = inl (record {
         outcome = made.outcome;

@@ -7,7 +7,7 @@ use Rattle.cc_heap.specs.declared.usage.Usage.{Usage}
 use Rattle.cc_heap.specs.Memory.{usage_of}
 use Rattle.cc_heap.specs.Heap.{Heap}
 use Rattle.cc_heap.specs.Events.{IsEvent}
-use Rattle.cc_heap.specs.Run.{IsFreeing, IsKeeping, IsMaking, IsSweeping, Moment, Passes, greatest, usage_in}
+use Rattle.cc_heap.specs.Run.{IsFreeing, IsKeeping, IsMaking, IsSweeping, Moment, PassesEvent, greatest, usage_in}
 use Rattle.cc_heap.specs.Peaks.{HasPeaks, without_peaks}
 use Rattle.cc_laws.proofs.HistoryLemmas.{event as event_passes, max_more}
 
@@ -43,7 +43,7 @@ greatest_none : (value : Usage → ℕ) → greatest (λ (m : Moment). value (us
 unfolding greatest
 greatest_none value = refl
 
-passed : (value : Usage → ℕ) (peak : Totals → ℕ) → IsPeak value peak → (old : Heap) (moments : List Moment) (new : Heap) → Passes old moments new
+passed : (value : Usage → ℕ) (peak : Totals → ℕ) → IsPeak value peak → (old : Heap) (moments : List Moment) (new : Heap) → PassesEvent old moments new
     → peak new.totals ≡ max (peak old.totals) (greatest (λ (m : Moment). value (usage_in m)) moments)
 passed value peak is_peak old [] new same = ap (λ (h : Heap). peak h.totals) same ∙ omega (arith, greatest_none value)
 passed value peak is_peak old (moment ∷ moments) new (next, change, rest) =

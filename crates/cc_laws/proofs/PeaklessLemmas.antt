@@ -9,10 +9,11 @@ use Rattle.cc_heap.specs.declared.object.Object.{Object}
 use Rattle.cc_heap.specs.declared.outcome.Outcome.{Outcome}
 use Rattle.cc_heap.specs.declared.totals.Totals.{Totals}
 use Rattle.cc_placer.specs.Align.{padded_size_for}
-use Rattle.cc_heap.specs.Events.{Allocates, AttemptsToReplace, ClearsOther, FollowsPolicy, FollowsReplacing, Frees, FreesIfLive, IsEvent, KeepsPlace, Reallocates, Remakes, Replaces, ReplacesLive}
+use Rattle.cc_heap.specs.Events.{AllocatesInHeap, AttemptsToReplace, ClearsOther, FollowsPolicy, FollowsReplacing, FreesInHeap}
+use Rattle.cc_heap.specs.Events.{FreesIfLive, IsEvent, KeepsPlace, Reallocates, Remakes, Replaces, ReplacesLive}
 use Rattle.cc_heap.specs.Events.{Tries, TriesToReplace}
-use Rattle.cc_heap.specs.Heap.{Attempts, FreesObject, Heap, KeepsObject, MakesObject, MustSweep, kept_object, quarantined_with, swept, swept_memory}
-use Rattle.cc_heap.specs.Memory.{object_at, usage_of}
+use Rattle.cc_heap.specs.Heap.{Attempts, FreesHeapObject, Heap, KeepsHeapObject, MakesHeapObject, MustSweep, kept_object, quarantined_with, swept_heap, swept_memory}
+use Rattle.cc_heap.specs.Memory.{memory_object, usage_of}
 use Rattle.cc_heap.specs.Peaks.{totals_without_peaks}
 use Rattle.cc_heap.specs.Policy.{AsksForSweep, is_of_the_trace}
 use Rattle.cc_heap.specs.Totals.{with_made, with_sweep, with_usage}
@@ -39,10 +40,10 @@ same t old new alike is = record {
   alike = alike ∙ ap (λ (h : Heap). totals_without_peaks h.totals) (sym is);
 }
 
-makes : (t : Totals) (old new : Heap) (id requested size : ℕ) → Alike t old.totals → MakesObject old id requested size new
-    → Twin (λ (h : Heap). MakesObject (re t old) id requested size h) new
+makes : (t : Totals) (old new : Heap) (id requested size : ℕ) → Alike t old.totals → MakesHeapObject old id requested size new
+    → Twin (λ (h : Heap). MakesHeapObject (re t old) id requested size h) new
 makes t old new id requested size alike made =
-    let object = object_at old.settings.align requested made.start size in
+    let object = memory_object old.settings.align requested made.start size in
     let end = made.start + padded_size_for old.settings.align size - old.settings.pool.base in
     let usage = usage_of (record { live = made.live; quarantined = old.memory.quarantined }) in
     record {
@@ -59,8 +60,8 @@ makes t old new id requested size alike made =
           ∙ ap (λ (h : Heap). totals_without_peaks h.totals) (sym made.is_new);
     }
 
-frees_object : (t : Totals) (old new : Heap) (id : ℕ) (object : Object) → Alike t old.totals → FreesObject old id object new
-    → Twin (λ (h : Heap). FreesObject (re t old) id object h) new
+frees_object : (t : Totals) (old new : Heap) (id : ℕ) (object : Object) → Alike t old.totals → FreesHeapObject old id object new
+    → Twin (λ (h : Heap). FreesHeapObject (re t old) id object h) new
 frees_object t old new id object alike freed =
     let usage = usage_of (record { live = freed.live; quarantined = quarantined_with old.settings.policy old.memory.quarantined object.span }) in
     record {
@@ -71,7 +72,7 @@ frees_object t old new id object alike freed =
     }
 
 keeps_object : (t : Totals) (old new : Heap) (from to : ℕ) (before : Object) (requested size : ℕ) → Alike t old.totals
-    → KeepsObject old from to before requested size new → Twin (λ (h : Heap). KeepsObject (re t old) from to before requested size h) new
+    → KeepsHeapObject old from to before requested size new → Twin (λ (h : Heap). KeepsHeapObject (re t old) from to before requested size h) new
 keeps_object t old new from to before requested size alike kept =
     let usage = usage_of (record { live = kept.live; quarantined = old.memory.quarantined }) in
     record {
@@ -87,7 +88,7 @@ keeps_object t old new from to before requested size alike kept =
           ∙ ap (λ (h : Heap). totals_without_peaks h.totals) (sym kept.is_new);
     }
 
-sweeps : (t : Totals) (old new : Heap) → Alike t old.totals → new ≡ swept old → Twin (λ (h : Heap). h ≡ swept (re t old)) new
+sweeps : (t : Totals) (old new : Heap) → Alike t old.totals → new ≡ swept_heap old → Twin (λ (h : Heap). h ≡ swept_heap (re t old)) new
 sweeps t old new alike is =
     let bytes = (usage_of old.memory).quarantine in
     let usage = usage_of (swept_memory old.memory) in
@@ -117,7 +118,7 @@ follows t old new alike (inr (not, is)) =
     let twin = same t old new alike is in
     record { totals = twin.totals; holds = inr (λ has_to. not (must old.totals t old (sym alike) has_to), twin.holds); alike = twin.alike }
 
-frees : (t : Totals) (old new : Heap) (id : ℕ) → Alike t old.totals → Frees old id new → Twin (λ (h : Heap). Frees (re t old) id h) new
+frees : (t : Totals) (old new : Heap) (id : ℕ) → Alike t old.totals → FreesInHeap old id new → Twin (λ (h : Heap). FreesInHeap (re t old) id h) new
 frees t old new id alike freed =
     let first = frees_object t old freed.freed id freed.object alike freed.frees in
     let twin = follows first.totals freed.freed new first.alike freed.follows in
@@ -155,12 +156,12 @@ unfolding sweeps
 tries t old new id requested size making alike (inl (is, made)) =
     let twin = makes t old new id requested size alike made in record { totals = twin.totals; holds = inl (is, twin.holds); alike = twin.alike }
 tries t old new id requested size making alike (inr (none, again)) =
-    let first = sweeps t old (swept old) alike refl in
-    let twin = attempts first.totals (swept old) new id requested size making first.alike again in
+    let first = sweeps t old (swept_heap old) alike refl in
+    let twin = attempts first.totals (swept_heap old) new id requested size making first.alike again in
     record { totals = twin.totals; holds = inr (none, twin.holds); alike = twin.alike }
 
-allocates : (t : Totals) (old new : Heap) (id requested size : ℕ) (outcome : Outcome) → Alike t old.totals → Allocates old id requested size outcome new
-    → Twin (λ (h : Heap). Allocates (re t old) id requested size outcome h) new
+allocates : (t : Totals) (old new : Heap) (id requested size : ℕ) (outcome : Outcome) → Alike t old.totals → AllocatesInHeap old id requested size outcome new
+    → Twin (λ (h : Heap). AllocatesInHeap (re t old) id requested size outcome h) new
 allocates t old new id requested size outcome alike is =
     let first = frees_if_live t old is.cleared id is.was_live alike is.clears in
     let twin = tries first.totals is.cleared new id requested size is.making first.alike is.tries in
@@ -209,8 +210,8 @@ unfolding sweeps
 tries_to_replace t old new id requested size making alike (inl (is, replaced)) =
     let twin = replaces t old new id requested size alike replaced in record { totals = twin.totals; holds = inl (is, twin.holds); alike = twin.alike }
 tries_to_replace t old new id requested size making alike (inr (none, again)) =
-    let first = sweeps t old (swept old) alike refl in
-    let twin = attempts_to_replace first.totals (swept old) new id requested size making first.alike again in
+    let first = sweeps t old (swept_heap old) alike refl in
+    let twin = attempts_to_replace first.totals (swept_heap old) new id requested size making first.alike again in
     record { totals = twin.totals; holds = inr (none, twin.holds); alike = twin.alike }
 
 follows_replacing : (t : Totals) (old new : Heap) (id : ℕ) (making : Making) → Alike t old.totals → FollowsReplacing old id making new
@@ -298,8 +299,8 @@ reallocates t old new from to requested size outcome alike is = by (kept_object 
         let twin = keeps_place t old new from to object requested size outcome alike is in
         record { totals = twin.totals; holds = twin.holds; alike = twin.alike }
 
-asked : (t : Totals) (old new : Heap) (of_trace : Bool) → Alike t old.totals → new ≡ (if of_trace then swept old else old)
-    → Twin (λ (h : Heap). h ≡ (if of_trace then swept (re t old) else re t old)) new
+asked : (t : Totals) (old new : Heap) (of_trace : Bool) → Alike t old.totals → new ≡ (if of_trace then swept_heap old else old)
+    → Twin (λ (h : Heap). h ≡ (if of_trace then swept_heap (re t old) else re t old)) new
 asked t old new true alike is = sweeps t old new alike is
 asked t old new false alike is = same t old new alike is
 

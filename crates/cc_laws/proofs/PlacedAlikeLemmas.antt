@@ -31,8 +31,8 @@ use Rattle.cc_syntax.specs.Planning.{plan_opening}
 use Rattle.cc_heap.specs.declared.object.Object.{Object}
 use Rattle.cc_heap.specs.declared.settings.Settings.{Settings}
 use Rattle.cc_heap.specs.Policy.{is_immediate}
-use Rattle.cc_heap.specs.Memory.{Memory, held_spans as heap_spans, object_at, start_unit}
-use Rattle.cc_heap.specs.Heap.{FreesObject, Heap, empty_heap, swept}
+use Rattle.cc_heap.specs.Memory.{Memory, memory_spans as heap_spans, memory_object, start_unit}
+use Rattle.cc_heap.specs.Heap.{FreesHeapObject, Heap, empty_heap, swept_heap}
 use Rattle.cc_heap.proofs.HeapLemmas.{memory_of}
 use Rattle.cc_heap.proofs.MemoryLemmas.{found_first}
 use Rattle.cc_replay.specs.Changes.{CanBePlanned, Change, Changes, MakesThis, ReplacesThis, objects_made}
@@ -185,7 +185,7 @@ still_none false waiting span none is = absurd (never is)
 
 -- the memory of a heap in which an object was freed
 freed_memory : (settings : Settings) (old new : Heap) (id : ℕ) (object : Object) → old.settings ≡ settings
-    → (frees : FreesObject old id object new)
+    → (frees : FreesHeapObject old id object new)
     → new.memory ≡ memory_of frees.live (waiting_with (is_immediate settings.policy) old.memory.quarantined object.span)
 freed_memory settings old new id object settings_is frees =
     ap (λ (h : Heap). h.memory) frees.is_new
@@ -219,7 +219,7 @@ make_follows settings limit id object heap new numbers state last ops [] alike n
 make_follows settings limit id object heap new numbers state last ops (reply ∷ replies) alike none makes can fits
     (next, step, run) =
     let is = allocates settings limit id object heap new numbers state next reply alike makes can fits step in
-    let entry : object_at heap.settings.align object.align makes.makes.start object.size ≡ object = sym makes.is in
+    let entry : memory_object heap.settings.align object.align makes.makes.start object.size ≡ object = sym makes.is in
     let adds : IsPermutation ((id, object) ∷ heap.memory.live) makes.makes.live =
     subst (λ (o : Object). IsPermutation ((id, o) ∷ heap.memory.live) makes.makes.live) entry makes.makes.adds in
     let memory : new.memory ≡ memory_of makes.makes.live heap.memory.quarantined =
@@ -248,7 +248,7 @@ make_follows settings limit id object heap new numbers state last ops (reply ∷
 
 free_follows : (settings : Settings) (limit id : ℕ) (object : Object) (heap new : Heap) (numbers : Numbers)
     (state last : State) (ops : List Op) (replies : List Reply) → AreAlike settings limit heap numbers state
-    → FreesObject heap id object new
+    → FreesHeapObject heap id object new
     → Run state (freeing settings.policy (numbers.number_of id) ++ ops) replies last
     → Follows settings limit new numbers [] ops replies last
 free_follows settings limit id object heap new numbers state last ops replies alike frees run =
@@ -281,7 +281,7 @@ free_follows settings limit id object heap new numbers state last ops replies al
     }
 
 sweep_follows : (settings : Settings) (limit : ℕ) (heap new : Heap) (numbers : Numbers) (state last : State)
-    (ops : List Op) (replies : List Reply) → AreAlike settings limit heap numbers state → new ≡ swept heap
+    (ops : List Op) (replies : List Reply) → AreAlike settings limit heap numbers state → new ≡ swept_heap heap
     → Run state (op.Sweep ∷ ops) replies last
     → Follows settings limit new numbers [] ops replies last
 sweep_follows settings limit heap new numbers state last ops [] alike is run = absurd run
@@ -333,7 +333,7 @@ replace_follows settings limit id before object heap new numbers state last ops 
     let waiting : List Span = heap.memory.quarantined in
     let others : List (ℕ × Object) = remove_entry (nat_eq id) heap.memory.live in
     let is = allocates settings limit id object heap replaces.made numbers state next reply alike makes can fits step in
-    let entry : object_at heap.settings.align object.align makes.makes.start object.size ≡ object = sym makes.is in
+    let entry : memory_object heap.settings.align object.align makes.makes.start object.size ≡ object = sym makes.is in
     let adds : IsPermutation ((id, object) ∷ heap.memory.live) makes.makes.live =
     subst (λ (o : Object). IsPermutation ((id, o) ∷ heap.memory.live) makes.makes.live) entry makes.makes.adds in
     let made_memory : replaces.made.memory ≡ memory_of makes.makes.live waiting =

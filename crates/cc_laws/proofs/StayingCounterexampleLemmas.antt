@@ -10,7 +10,7 @@ use Rattle.cc_machine.proofs.SlotLemmas.{IsSlot-same, IsSlot-within}
 use Rattle.cc_machine.proofs.ObjectLemmas.{IsObject-same}
 use Rattle.cc_laws.specs.Staying.{stage, KeepsSlots}
 use Rattle.cc_laws.specs.ByteConfinement.{GrantsWithinGiven, IsConfinedInBytes}
-use Rattle.cc_laws.specs.Counterexamples.{bounded_root, child_slot, first_slot, powerless_root, revoked_slot, object_in, is_first}
+use Rattle.cc_laws.specs.Counterexamples.{bounded_root, child_slot, first_slot, powerless_root, revoked_slot, counterexample_object, is_first}
 use Rattle.cc_laws.specs.Counterexamples.{root_alone, two_slots, unsealed_alone, own_parent, revoked_pool, pool_alone, tagged_after_sweep}
 use Rattle.cc_laws.specs.Counterexamples.{with_another_limit, live_after_sweep, grown_object, child_with_more_permissions, sixteen_bytes}
 use Rattle.cc_laws.specs.Counterexamples.{child_with_more_bytes, revoked_alone, child_of_revoked}
@@ -53,7 +53,7 @@ tagged-breaks keeps =
 pub size-breaks : ¬ KeepsSlots tagged_after_sweep grown_object
 size-breaks keeps =
     let kept = keeps.objects 1 _ (record { found = refl }) in
-    let at : IsObject grown_object 1 (record (object_in 1 Swept) { size = 2 }) = record { found = refl } in
+    let at : IsObject grown_object 1 (record (counterexample_object 1 Swept) { size = 2 }) = record { found = refl } in
     let same = IsObject-same at kept.is_object in
     let e : 2 ≡ 1 = ap (λ (o : Object). o.size) same ∙ kept.size in
     absurd (omega (arith, e))
@@ -61,7 +61,7 @@ size-breaks keeps =
 pub state-breaks : ¬ KeepsSlots tagged_after_sweep live_after_sweep
 state-breaks keeps =
     let kept = keeps.objects 1 _ (record { found = refl }) in
-    let at : IsObject live_after_sweep 1 (object_in 1 Live) = record { found = refl } in
+    let at : IsObject live_after_sweep 1 (counterexample_object 1 Live) = record { found = refl } in
     let same = IsObject-same at kept.is_object in
     let early : 0 ≡ stage kept.after.state = ap (λ (o : Object). stage o.state) same in
     let later = kept.goes_on in

@@ -41,7 +41,7 @@ use Rattle.cc_laws.specs.Counterexamples.{revoked_while_live, revoked_pool, is_f
 use Rattle.cc_laws.specs.Counterexamples.{sealed_alone, child_unsealed, unsealed_alone, child_sealed, root_alone}
 use Rattle.cc_laws.specs.Counterexamples.{reused_before_revocation, objects_past_the_pool, two_objects}
 use Rattle.cc_laws.specs.Counterexamples.{child_of_the_pool, child_in_another_object, child_tagged_after_sweep}
-use Rattle.cc_laws.specs.Counterexamples.{five_refusals, of_slots, first_slot, child_slot, bounded_root, powerless_root, object_in}
+use Rattle.cc_laws.specs.Counterexamples.{five_refusals, of_slots, first_slot, child_slot, bounded_root, powerless_root, counterexample_object}
 use Rattle.cc_machine.proofs.RuleLemmas.{GrantsNoMore-refl}
 
 -- ---- slots
@@ -172,8 +172,8 @@ revoked_while_live-breaks exactly = by_object ((exactly.revoked 1 _ (record { fo
     live : (number : ℕ) (object : Object) → IsObject revoked_while_live number object → object.state ≡ Swept → ⊥
     live zero object is swept = let e = is.found in cc
     live (suc zero) object is swept =
-        let found : Ok (object_in 1 Live) ≡ Ok object = is.found in
-        let same : object_in 1 Live ≡ object = (let e = found in cc) in
+        let found : Ok (counterexample_object 1 Live) ≡ Ok object = is.found in
+        let same : counterexample_object 1 Live ≡ object = (let e = found in cc) in
         let mark : Live ≡ object.state = ap (λ (o : Object). o.state) same in
         cc
     live (suc (suc before)) object is swept = let e = is.found in cc
@@ -185,7 +185,7 @@ pub tagged_after_sweep-breaks : ¬ IsRevokedExactly tagged_after_sweep
 tagged_after_sweep-breaks exactly =
     let revoked : false ≡ true = (exactly.revoked 1 _ (record { found = refl })).1 (record {
       number = 1;
-      object = object_in 1 Swept;
+      object = counterexample_object 1 Swept;
       is_object = record { found = refl };
       has_mark = refl;
       belongs = inl refl;
@@ -328,7 +328,7 @@ object_past_the_pool-breaks slot own is is_own within =
     let top_own : own.capability.span.top ≡ 2 = sym (ap (λ (s : SlotState). s.capability.span.top) same_own) in
     absurd (omega (arith, within.to_top, top, top_own))
 
-pub child_of_the_pool-breaks : ¬ IsConfinedToObject two_objects child_of_the_pool 1 (object_in 1 Live)
+pub child_of_the_pool-breaks : ¬ IsConfinedToObject two_objects child_of_the_pool 1 (counterexample_object 1 Live)
 child_of_the_pool-breaks confined = by_belongs (confined.belongs 3 (omega arith) (omega arith))
   where
     parent : {above : ℕ} → IsParent child_of_the_pool above 3 → above ≡ 0
@@ -354,11 +354,11 @@ child_of_the_pool-breaks confined = by_belongs (confined.belongs 3 (omega arith)
     by_ancestor (parent_of at) = absurd (omega (arith, parent at))
     by_ancestor (above_parent at up) = above_root (parent at) up
 
-    by_belongs : BelongsTo child_of_the_pool (object_in 1 Live) 3 → ⊥
+    by_belongs : BelongsTo child_of_the_pool (counterexample_object 1 Live) 3 → ⊥
     by_belongs (inl same) = absurd (omega (arith, same))
     by_belongs (inr up) = by_ancestor up
 
-pub child_in_another_object-breaks : ¬ IsConfinedToObject two_objects child_in_another_object 1 (object_in 1 Live)
+pub child_in_another_object-breaks : ¬ IsConfinedToObject two_objects child_in_another_object 1 (counterexample_object 1 Live)
 child_in_another_object-breaks confined =
     confined.apart 2 _ 3 2 _ _ (record { is_object = record { found = refl }; held = refl })
     (λ one. absurd (omega (arith, one))) (inl refl) (record { found = refl }) (omega arith) (record { found = refl })
@@ -368,9 +368,9 @@ child_in_another_object-breaks confined =
       in_other = record { from_base = omega arith; below_top = omega arith };
     })
 
-pub child_tagged_after_sweep-breaks : ¬ IsConfinedToObject two_objects child_tagged_after_sweep 1 (object_in 1 Live)
+pub child_tagged_after_sweep-breaks : ¬ IsConfinedToObject two_objects child_tagged_after_sweep 1 (counterexample_object 1 Live)
 child_tagged_after_sweep-breaks confined =
-    let revoked : false ≡ true = confined.revoked (object_in 1 Swept) 3 _ (record { found = refl }) refl (omega arith) (record { found = refl }) in
+    let revoked : false ≡ true = confined.revoked (counterexample_object 1 Swept) 3 _ (record { found = refl }) refl (omega arith) (record { found = refl }) in
     cc
 
 -- ---- those of each law

@@ -28,9 +28,9 @@ use Rattle.cc_placer.specs.declared.event.Event.TheVariants as event
 use Rattle.cc_formats.specs.declared.reading.Progress.TheVariants.{Running}
 use Rattle.cc_heap.specs.declared.making.Making.TheVariants.{Made}
 use Rattle.cc_heap.specs.declared.object.Object.{Object}
-use Rattle.cc_heap.specs.Events.{Frees, IsEvent, outcome_of}
-use Rattle.cc_heap.specs.Heap.{FreesObject, Heap, MakesObject, empty_heap, swept}
-use Rattle.cc_heap.specs.Memory.{object_at, start_unit, usage_of}
+use Rattle.cc_heap.specs.Events.{FreesInHeap, IsEvent, outcome_of}
+use Rattle.cc_heap.specs.Heap.{FreesHeapObject, Heap, MakesHeapObject, empty_heap, swept_heap}
+use Rattle.cc_heap.specs.Memory.{memory_object, start_unit, usage_of}
 use Rattle.cc_heap.specs.Run.{Runs}
 use Rattle.cc_heap.specs.declared.policy.Policy.TheVariants.{Trace}
 use Rattle.cc_heap.specs.Totals.{with_made, with_usage}
@@ -75,7 +75,7 @@ placement =
     (subst (λ (size : ℕ). IsPlacement pool_span [] size 1 0x10000) (sym padded-sixteen) placed)
 
 abbrev pub object : Object
-object = object_at One 1 0x10000 16
+object = memory_object One 1 0x10000 16
 
 -- ---- the heaps
 
@@ -95,7 +95,7 @@ with_freed = record with_object {
   totals = with_usage with_object.totals (usage_of (record { live = []; quarantined = object.span ∷ [] }));
 }
 
-abbrev makes : MakesObject none 1 1 16 with_object
+abbrev makes : MakesHeapObject none 1 1 16 with_object
 makes = record {
   start = 0x10000;
   live = (1, object) ∷ [];
@@ -105,10 +105,10 @@ makes = record {
   is_new = refl;
 }
 
-frees_object : FreesObject with_object 1 object with_freed
+frees_object : FreesHeapObject with_object 1 object with_freed
 frees_object = record { live = []; takes = IsPermutation-refl ((1, object) ∷ []); is_new = refl }
 
-frees : Frees with_object 1 with_freed
+frees : FreesInHeap with_object 1 with_freed
 frees = record {
   object = object;
   is_live = refl;
@@ -213,15 +213,15 @@ frees_line = record {
 can-sweep : can_have (state_of with_freed ids) event.Sweep ≡ true
 can-sweep = refl
 
-pub sweeps_line : ScriptsEvent (state_of with_freed ids) event.Sweep (operation_lines (op.Sweep ∷ [])) false (state_of (swept with_freed) ids)
+pub sweeps_line : ScriptsEvent (state_of with_freed ids) event.Sweep (operation_lines (op.Sweep ∷ [])) false (state_of (swept_heap with_freed) ids)
 sweeps_line = record {
   outcome = outcome_of false false None;
-  heap = swept with_freed;
+  heap = swept_heap with_freed;
   ids = ids;
   changes = SweepAll ∷ [];
   can = can-sweep;
   is_event = (refl, refl);
-  are = (swept with_freed, refl, refl);
+  are = (swept_heap with_freed, refl, refl);
   plannable = _;
   numbers = refl;
   few = λ fits. fits;
@@ -233,7 +233,7 @@ sweeps_line = record {
 -- ---- the output
 
 pub output : Output ScriptsLine ScriptsRest lines (script_begun worked_settings worked_reading) worked_trace worked_trace_script false
-    (state_of (swept with_freed) ids)
+    (state_of (swept_heap with_freed) ids)
 unfolding entry_of digits lib.Count.ones
 output = record {
   answers =
@@ -241,11 +241,11 @@ output = record {
       ∷ record { text = operation_lines (op.Free 1 ∷ []); is_error = false }
       ∷ record { text = operation_lines (op.Sweep ∷ []); is_error = false }
       ∷ [];
-  mid = state_of (swept with_freed) ids;
+  mid = state_of (swept_heap with_freed) ids;
   takes = (
     state_of with_object ids,
     inl makes_line,
-    (state_of with_freed ids, inl frees_line, (state_of (swept with_freed) ids, inl sweeps_line, refl)),
+    (state_of with_freed ids, inl frees_line, (state_of (swept_heap with_freed) ids, inl sweeps_line, refl)),
   );
   ending = record { text = []; is_error = false };
   ends = (refl, refl, refl);
@@ -314,12 +314,12 @@ worked_operations = op.Alloc 16 ∷ op.Free 1 ∷ op.Sweep ∷ []
 
 pub events : (heap : Heap) × Runs (empty_heap worked_settings) worked_events heap × (heap.totals.made ≡ 1)
 events = (
-  swept with_freed,
+  swept_heap with_freed,
   (
     outcome_of false false (Some Made),
     with_object,
     makes_event,
-    (outcome_of false false None, with_freed, frees_event, (outcome_of false false None, swept with_freed, (refl, refl), refl)),
+    (outcome_of false false None, with_freed, frees_event, (outcome_of false false None, swept_heap with_freed, (refl, refl), refl)),
   ),
   refl,
 )
@@ -332,8 +332,8 @@ pub changes : (changes : List Change) × (heap : Heap) × Changes (empty_heap wo
     × (operations_of Trace no_numbers changes ≡ worked_operations)
 changes = (
   Make 1 object ∷ FreeLive 1 object ∷ SweepAll ∷ [],
-  swept with_freed,
-  (with_object, makes_change, (with_freed, frees_object, (swept with_freed, refl, refl))),
+  swept_heap with_freed,
+  (with_object, makes_change, (with_freed, frees_object, (swept_heap with_freed, refl, refl))),
   plannable,
   refl,
 )

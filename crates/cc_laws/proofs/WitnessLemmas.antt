@@ -22,7 +22,7 @@ use Rattle.cc_machine.specs.Confinement.{RunsWithin}
 use Rattle.cc_machine.proofs.SlotLemmas.{ancestor-before}
 use Rattle.cc_machine.proofs.TreeLemmas.{IsMonotonicTree-reached}
 use Rattle.cc_laws.specs.Counterexamples.{is_first}
-use Rattle.cc_laws.specs.Witnesses.{with_pool, first_object, sixteen_capability, with_first_object, is_of_object, with_derived_slot}
+use Rattle.cc_laws.specs.Witnesses.{pooled_state, first_object, sixteen_capability, with_first_object, is_of_object, with_derived_slot}
 use Rattle.cc_laws.proofs.ResultLemmas.{HasWord, has_word}
 
 -- ---- the object's capability
@@ -78,7 +78,7 @@ placement = record {
   least = λ other place. omega arith;
 }
 
-places : PlacesObject with_pool 16 (Allocated 1 1 object-word.word sixteen 16) with_first_object
+places : PlacesObject pooled_state 16 (Allocated 1 1 object-word.word sixteen 16) with_first_object
 places = record {
   pool = 0;
   slot = _;
@@ -100,7 +100,7 @@ pub makes : (word : ℕ) × Run (initial_state 8) (Pool 0 One ∷ Alloc 16 ∷ [
 makes = (
   object-word.word,
   (
-    with_pool,
+    pooled_state,
     inl (refl, inl (refl, (refl, refl))),
     (with_first_object, inl (refl, inl (omega arith, inl (omega arith, places))), refl),
   ),

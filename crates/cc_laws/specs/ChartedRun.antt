@@ -8,7 +8,7 @@ use Rattle.cc_heap.specs.Events.{IsEvent}
 use Rattle.cc_heap.specs.Heap.{Heap}
 use Rattle.cc_heap.specs.Memory.{usage_of}
 use Rattle.cc_heap.specs.Peaks.{without_peaks}
-use Rattle.cc_heap.specs.Run.{Moment, Passes, greatest, usage_in}
+use Rattle.cc_heap.specs.Run.{Moment, PassesEvent, greatest, usage_in}
 use Rattle.cc_heap.specs.Totals.{capped_sum}
 use Rattle.cc_formats.specs.declared.reading.Progress.TheVariants.{Running}
 use Rattle.cli_replay.specs.Charting.{Charted}
@@ -17,7 +17,7 @@ use Rattle.cli_replay.specs.Charting.{Charted}
 -- quarantined and held bytes over these states and `new`, and the high-water mark of `new`.
 pub record HasLevels (old new : Heap) (levels : Levels) : Type 0 where
   pub moments : List Moment
-  pub passes : Passes old moments new
+  pub passes : PassesEvent old moments new
   pub live : levels.live ≡ max (greatest (λ moment. (usage_in moment).live) moments) (usage_of new.memory).live
   pub quarantine : levels.quarantine
       ≡ max (greatest (λ moment. (usage_in moment).quarantine) moments) (usage_of new.memory).quarantine

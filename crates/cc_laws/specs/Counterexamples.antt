@@ -41,8 +41,8 @@ abbrev pub powerless_root : Capability
 powerless_root = with_permissions root_capability 0
 
 -- An object of one byte.
-abbrev pub object_in : (slot : ℕ) → ObjectState → Object
-object_in slot mark = record { size = 1; slot = slot; state = mark }
+abbrev pub counterexample_object : (slot : ℕ) → ObjectState → Object
+counterexample_object slot mark = record { size = 1; slot = slot; state = mark }
 
 -- ---- slots
 
@@ -83,34 +83,34 @@ unsealed_by_none = of_slots (first_slot (sealed_with root_capability 0) ∷ chil
 
 -- An object in the root's slot, and no pool.
 abbrev pub object_without_pool : State
-object_without_pool = record (of_slots (first_slot root_capability ∷ [])) { objects = object_in 0 Live ∷ [] }
+object_without_pool = record (of_slots (first_slot root_capability ∷ [])) { objects = counterexample_object 0 Live ∷ [] }
 
 -- Two objects with one slot.
 abbrev pub slot_of_two_objects : State
 slot_of_two_objects =
-    of_objects (first_slot root_capability ∷ child_slot (bounded_root 0 1) ∷ []) (object_in 1 Live ∷ object_in 1 Live ∷ [])
+    of_objects (first_slot root_capability ∷ child_slot (bounded_root 0 1) ∷ []) (counterexample_object 1 Live ∷ counterexample_object 1 Live ∷ [])
 
 -- An object of one byte whose slot has two.
 abbrev pub object_with_another_byte : State
 object_with_another_byte =
-    of_objects (first_slot root_capability ∷ child_slot (bounded_root 0 2) ∷ []) (object_in 1 Live ∷ [])
+    of_objects (first_slot root_capability ∷ child_slot (bounded_root 0 2) ∷ []) (counterexample_object 1 Live ∷ [])
 
 -- An object of no bytes.
 abbrev pub object_without_bytes : State
 object_without_bytes =
     of_objects (first_slot root_capability ∷ child_slot (bounded_root 0 0) ∷ [])
-    (record (object_in 1 Live) { size = 0 } ∷ [])
+    (record (counterexample_object 1 Live) { size = 0 } ∷ [])
 
 -- An object at address 1 of a pool of alignment 16.
 abbrev pub object_off_alignment : State
 object_off_alignment =
-    record (of_objects (first_slot root_capability ∷ child_slot (bounded_root 1 16) ∷ []) (object_in 1 Live ∷ [])) { align = Sixteen }
+    record (of_objects (first_slot root_capability ∷ child_slot (bounded_root 1 16) ∷ []) (counterexample_object 1 Live ∷ [])) { align = Sixteen }
 
 -- A live object in the byte of a freed one.
 abbrev pub live_in_freed : State
 live_in_freed =
     of_objects (first_slot root_capability ∷ child_slot (bounded_root 0 1) ∷ child_slot (bounded_root 0 1) ∷ [])
-    (object_in 1 Freed ∷ object_in 2 Live ∷ [])
+    (counterexample_object 1 Freed ∷ counterexample_object 2 Live ∷ [])
 
 -- A slot that belongs to no object, revoked.
 abbrev pub revoked_without_object : State
@@ -119,24 +119,24 @@ revoked_without_object = of_slots (first_slot root_capability ∷ revoked_slot (
 -- The slot of a swept object, still tagged.
 abbrev pub tagged_after_sweep : State
 tagged_after_sweep =
-    of_objects (first_slot root_capability ∷ child_slot (bounded_root 0 1) ∷ []) (object_in 1 Swept ∷ [])
+    of_objects (first_slot root_capability ∷ child_slot (bounded_root 0 1) ∷ []) (counterexample_object 1 Swept ∷ [])
 
 -- The slot of a swept object, still tagged, and a live object in its byte.
 abbrev pub reused_before_revocation : State
 reused_before_revocation =
     of_objects (first_slot root_capability ∷ child_slot (bounded_root 0 1) ∷ child_slot (bounded_root 0 1) ∷ [])
-    (object_in 1 Swept ∷ object_in 2 Live ∷ [])
+    (counterexample_object 1 Swept ∷ counterexample_object 2 Live ∷ [])
 
 -- A pool of one byte, with two live objects of one byte.
 abbrev pub objects_past_the_pool : State
 objects_past_the_pool =
     of_objects (first_slot (bounded_root 0 1) ∷ child_slot (bounded_root 0 1) ∷ child_slot (bounded_root 1 1) ∷ [])
-    (object_in 1 Live ∷ object_in 2 Live ∷ [])
+    (counterexample_object 1 Live ∷ counterexample_object 2 Live ∷ [])
 
 -- The slot of a live object, revoked.
 abbrev pub revoked_while_live : State
 revoked_while_live =
-    of_objects (first_slot root_capability ∷ revoked_slot (child_slot (bounded_root 0 1)) ∷ []) (object_in 1 Live ∷ [])
+    of_objects (first_slot root_capability ∷ revoked_slot (child_slot (bounded_root 0 1)) ∷ []) (counterexample_object 1 Live ∷ [])
 
 -- The slot of the pool, revoked.
 abbrev pub revoked_pool : State
@@ -176,7 +176,7 @@ child_sealed = record unsealed_alone { slots = unsealed_alone.slots ++ child_slo
 abbrev pub two_objects : State
 two_objects =
     of_objects (first_slot root_capability ∷ child_slot (bounded_root 0 1) ∷ child_slot (bounded_root 1 1) ∷ [])
-    (object_in 1 Live ∷ object_in 2 Live ∷ [])
+    (counterexample_object 1 Live ∷ counterexample_object 2 Live ∷ [])
 
 -- The two objects, and a child of the pool's slot, which belongs to neither of them.
 abbrev pub child_of_the_pool : State
@@ -191,7 +191,7 @@ child_in_another_object =
 abbrev pub child_tagged_after_sweep : State
 child_tagged_after_sweep = record two_objects {
   slots = two_objects.slots ++ tagged_slot (bounded_root 0 1) (Some 1) ∷ [];
-  objects = object_in 1 Swept ∷ object_in 2 Live ∷ [];
+  objects = counterexample_object 1 Swept ∷ counterexample_object 2 Live ∷ [];
 }
 
 -- The root alone.
@@ -214,11 +214,11 @@ pool_alone = of_objects (first_slot root_capability ∷ []) []
 
 -- An object that is live after it was swept.
 abbrev pub live_after_sweep : State
-live_after_sweep = record tagged_after_sweep { objects = object_in 1 Live ∷ [] }
+live_after_sweep = record tagged_after_sweep { objects = counterexample_object 1 Live ∷ [] }
 
 -- An object of two bytes after it had one.
 abbrev pub grown_object : State
-grown_object = record tagged_after_sweep { objects = record (object_in 1 Swept) { size = 2 } ∷ [] }
+grown_object = record tagged_after_sweep { objects = record (counterexample_object 1 Swept) { size = 2 } ∷ [] }
 
 -- The slot without permissions, and a child with the root's permissions.
 abbrev pub child_with_more_permissions : State

@@ -14,7 +14,7 @@ use Rattle.cc_machine.specs.Run.{Run}
 use Rattle.cc_placer.specs.declared.event.Event.{Event}
 use Rattle.cc_heap.specs.declared.object.Object.{Object}
 use Rattle.cc_heap.specs.declared.settings.Settings.{Settings}
-use Rattle.cc_heap.specs.Memory.{held_spans as heap_spans}
+use Rattle.cc_heap.specs.Memory.{memory_spans as heap_spans}
 use Rattle.cc_heap.specs.Heap.{Heap, empty_heap}
 use Rattle.cc_formats.specs.declared.reading.Progress.{Progress}
 use Rattle.cc_formats.specs.declared.reading.Progress.TheVariants.{Running}

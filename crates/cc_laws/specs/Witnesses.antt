@@ -8,8 +8,8 @@ use Rattle.cc_machine.specs.State.{State, initial_state, with_slot}
 use Rattle.cc_machine.specs.Objects.{with_object}
 
 -- A new machine of 8 slots, with the root's slot as the pool's.
-abbrev pub with_pool : State
-with_pool = record (initial_state 8) { pool = Some 0 }
+abbrev pub pooled_state : State
+pooled_state = record (initial_state 8) { pool = Some 0 }
 
 -- An object of 16 bytes, in slot 1.
 abbrev pub first_object : Object
@@ -21,7 +21,7 @@ sixteen_capability = with_span root_capability (span_from 0 16)
 
 -- The state with the object.
 abbrev pub with_first_object : State
-with_first_object = with_object with_pool sixteen_capability 0 16
+with_first_object = with_object pooled_state sixteen_capability 0 16
 
 -- The slot that is given to a client: the object's.
 abbrev pub is_of_object : ℕ → Bool

@@ -6,7 +6,7 @@ ghost use Rattle.cc_heap.specs.declared.object.Object.{Object};
 ghost use Rattle.cc_heap.specs.declared.outcome.Outcome.{Outcome};
 ghost use Rattle.cc_heap.specs.declared.settings.Settings.{Settings};
 ghost use Rattle.cc_heap.specs.Events.{outcome_of};
-ghost use Rattle.cc_heap.specs.Heap.{Heap, empty_heap, no_totals, swept};
+ghost use Rattle.cc_heap.specs.Heap.{Heap, empty_heap, no_totals, swept_heap};
 ghost use Rattle.cc_heap.specs.Lost.{HasSizes, RunsNoting, empty_run};
 ghost use Rattle.cc_heap.specs.Peaks.{HasPeaks};
 ghost use Rattle.cc_heap.specs.Run.{HasTotals};
@@ -42,7 +42,7 @@ fn heaps_that_are_not_alike()
         (record (empty_heap settings) { memory = record { live = (2, other) ∷ (1, one) ∷ []; quarantined = [] } }) }
     ensures live { (settings : Settings) (one : Object) → ¬ AreAlike (empty_heap settings)
         (record (empty_heap settings) { memory = record { live = (1, one) ∷ []; quarantined = [] } }) }
-    ensures totals { (settings : Settings) → ¬ AreAlike (empty_heap settings) (swept (empty_heap settings)) }
+    ensures totals { (settings : Settings) → ¬ AreAlike (empty_heap settings) (swept_heap (empty_heap settings)) }
     ensures lost { (settings : Settings) → ¬ AreAlikeRuns (empty_run settings)
         (record (empty_run settings) { lost = 1 ∷ [] }) }
 {}

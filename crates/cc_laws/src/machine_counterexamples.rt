@@ -13,7 +13,7 @@ ghost use Rattle.cc_bounds.specs.Span.{IsWithin, length_of};
 ghost use Rattle.cc_plan.specs.declared.planned_object.ObjectState.TheVariants.{Live};
 ghost use Rattle.cc_machine.specs.Objects.{IsPool, held_bytes_of};
 ghost use Rattle.cc_machine.specs.ObjectConfinement.{ReusesAfterRevocation, IsConfinedToObject};
-ghost use Rattle.cc_laws.specs.Counterexamples.{reused_before_revocation, objects_past_the_pool, object_in};
+ghost use Rattle.cc_laws.specs.Counterexamples.{reused_before_revocation, objects_past_the_pool, counterexample_object};
 ghost use Rattle.cc_laws.specs.Counterexamples.{two_objects, child_of_the_pool, child_in_another_object};
 ghost use Rattle.cc_laws.specs.Counterexamples.{child_tagged_after_sweep};
 ghost use Rattle.cc_machine.specs.Reach.{path_to, ReachesAll};
@@ -119,9 +119,9 @@ fn held_bytes_that_do_not_fit_the_pool()
 
 #[tactic(auto, using(crate::proofs::StepCounterexampleLemmas::object_confinement_breaks))]
 fn runs_that_are_not_confined_to_an_object()
-    ensures belongs { ¬ IsConfinedToObject two_objects child_of_the_pool 1 (object_in 1 Live) }
-    ensures apart { ¬ IsConfinedToObject two_objects child_in_another_object 1 (object_in 1 Live) }
-    ensures revoked { ¬ IsConfinedToObject two_objects child_tagged_after_sweep 1 (object_in 1 Live) }
+    ensures belongs { ¬ IsConfinedToObject two_objects child_of_the_pool 1 (counterexample_object 1 Live) }
+    ensures apart { ¬ IsConfinedToObject two_objects child_in_another_object 1 (counterexample_object 1 Live) }
+    ensures revoked { ¬ IsConfinedToObject two_objects child_tagged_after_sweep 1 (counterexample_object 1 Live) }
 {}
 
 #[tactic(auto, using(crate::proofs::StepCounterexampleLemmas::reaching_breaks))]

@@ -5,8 +5,8 @@ use Rattle.cc_word.specs.declared.refusal.Refusal.{Refusal}
 use Rattle.cc_io.specs.CommandOutput.{IsRefusalLine}
 
 -- The number of two halves.
-abbrev pub number_of_halves : (high low : ℕ) → ℕ
-number_of_halves high low = high * 2 ^ 64 + low
+abbrev pub number_from_halves : (high low : ℕ) → ℕ
+number_from_halves high low = high * 2 ^ 64 + low
 
 -- Holds holds if the first `count` bytes are a text that satisfies `IsText`.
 pub record Holds (IsText : List ℕ → Type 0) (bytes : List ℕ) (count : ℕ) : Type 0 where

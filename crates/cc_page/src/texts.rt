@@ -7,7 +7,7 @@ ghost use Rattle.cc_explain.specs.Explanation.{IsWordExplanation};
 ghost use Rattle.cc_explain.specs.Listing.{IsWordListing};
 ghost use Rattle.cc_explain.specs.Request.{IsRequestExplanation};
 ghost use Rattle.cc_explain.specs.WindowDrawing.{IsWordDrawing};
-ghost use Rattle.cc_page.specs.Texts.{Holds, number_of_halves};
+ghost use Rattle.cc_page.specs.Texts.{Holds, number_from_halves};
 ghost use Rattle.cc_word.specs.declared.refusal.Refusal.TheVariants.{OutOfBounds};
 
 use cc_bounds::{ADDRESS_SPACE, Span};
@@ -19,7 +19,7 @@ use cc_word::Refusal;
 /// bytes after it do not change.
 #[unsafe(no_mangle)]
 pub extern "C" fn cheri_page_show(high: u64, low: u64, bytes: &mut [u8; MOST_TEXT]) -> usize
-    ensures text { Holds (IsWordListing (number_of_halves high low)) bytes.new result }
+    ensures text { Holds (IsWordListing (number_from_halves high low)) bytes.new result }
     ensures rest { drop result bytes.new ≡ drop result bytes.old }
 {
     let mut text = Text::new();
@@ -31,7 +31,7 @@ pub extern "C" fn cheri_page_show(high: u64, low: u64, bytes: &mut [u8; MOST_TEX
 /// bytes after it do not change.
 #[unsafe(no_mangle)]
 pub extern "C" fn cheri_page_explain(high: u64, low: u64, bytes: &mut [u8; MOST_TEXT]) -> usize
-    ensures text { Holds (IsWordExplanation (number_of_halves high low)) bytes.new result }
+    ensures text { Holds (IsWordExplanation (number_from_halves high low)) bytes.new result }
     ensures rest { drop result bytes.new ≡ drop result bytes.old }
 {
     let mut text = Text::new();
@@ -43,7 +43,7 @@ pub extern "C" fn cheri_page_explain(high: u64, low: u64, bytes: &mut [u8; MOST_
 /// length. The bytes after it do not change.
 #[unsafe(no_mangle)]
 pub extern "C" fn cheri_page_draw(high: u64, low: u64, bytes: &mut [u8; MOST_TEXT]) -> usize
-    ensures text { Holds (IsWordDrawing (number_of_halves high low)) bytes.new result }
+    ensures text { Holds (IsWordDrawing (number_from_halves high low)) bytes.new result }
     ensures rest { drop result bytes.new ≡ drop result bytes.old }
 {
     let mut text = Text::new();
@@ -62,9 +62,9 @@ pub extern "C" fn cheri_page_explain_length(
     length_low: u64,
     bytes: &mut [u8; MOST_TEXT],
 ) -> usize
-    ensures granted { base + number_of_halves length_high length_low ≤ 2 ^ 64
-        → Holds (IsRequestExplanation (span_from base (number_of_halves length_high length_low))) bytes.new result }
-    ensures refused { (¬ base + number_of_halves length_high length_low ≤ 2 ^ 64)
+    ensures granted { base + number_from_halves length_high length_low ≤ 2 ^ 64
+        → Holds (IsRequestExplanation (span_from base (number_from_halves length_high length_low))) bytes.new result }
+    ensures refused { (¬ base + number_from_halves length_high length_low ≤ 2 ^ 64)
         → Holds (IsRefusalLine OutOfBounds) bytes.new result }
     ensures rest { drop result bytes.new ≡ drop result bytes.old }
 {
@@ -89,7 +89,7 @@ fn push_request(text: &mut Text, base: u64, length: u128)
 
 /// Returns the number of two halves.
 fn number(high: u64, low: u64) -> u128
-    ensures { result ≡ number_of_halves high low }
+    ensures { result ≡ number_from_halves high low }
 {
     (u128::from(high) << 64) + u128::from(low)
 }

@@ -25,11 +25,12 @@ use Rattle.cc_heap.specs.declared.policy.Policy.{Policy}
 use Rattle.cc_heap.specs.declared.policy.Policy.TheVariants as policy
 use Rattle.cc_heap.specs.declared.reallocation.Reallocation.{Reallocation}
 use Rattle.cc_heap.specs.declared.settings.Settings.{Settings}
-use Rattle.cc_heap.specs.Memory.{object_at}
+use Rattle.cc_heap.specs.Memory.{memory_object}
 use Rattle.cc_heap.specs.Policy.{AsksForSweep, Gauge, is_immediate, is_of_the_trace}
 use Rattle.cc_heap.specs.Reallocation.{can_take, is_keep}
-use Rattle.cc_heap.specs.Heap.{Attempts, FreesObject, Heap, MakesObject, gauge_of, is_made, kept_object, object_under, quarantined_with, swept}
-use Rattle.cc_heap.specs.Events.{Allocates, FollowsPolicy, FollowsReplacing, Frees, FreesIfLive, IsEvent, KeepsPlace, Reallocates, Remakes, Replaces, ReplacesLive, Tries, TriesToReplace, outcome_of}
+use Rattle.cc_heap.specs.Heap.{Attempts, FreesHeapObject, Heap, MakesHeapObject, gauge_of, is_made, kept_object, object_under, quarantined_with, swept_heap}
+use Rattle.cc_heap.specs.Events.{AllocatesInHeap, FollowsPolicy, FollowsReplacing, FreesInHeap, FreesIfLive, IsEvent, KeepsPlace}
+use Rattle.cc_heap.specs.Events.{Reallocates, Remakes, Replaces, ReplacesLive, Tries, TriesToReplace, outcome_of}
 use Rattle.cc_replay.specs.declared.deeds.Deeds.{Deeds}
 use Rattle.cc_replay.specs.declared.deeds.MadeEntry.{MadeEntry}
 use Rattle.cc_replay.specs.Changes.{AsksForUnit, CanBePlanned, Change, Changes, objects_made}
@@ -188,15 +189,15 @@ same old new kept is = record {
 -- ---- one change
 
 kept_made : (old new : Heap) (id requested size start : ℕ) (live : List (ℕ × Object)) → IsKept old → IsFree old id → 0 < size
-    → IsPermutation ((id, object_at old.settings.align requested start size) ∷ old.memory.live) live
+    → IsPermutation ((id, memory_object old.settings.align requested start size) ∷ old.memory.live) live
     → new.memory.live ≡ live → new.settings ≡ old.settings → IsKept new
 kept_made old new id requested size start live kept free some adds live_is settings_are = record {
   once = λ other. subst (λ (l : List (ℕ × Object)). sum_by (id_weight other) l ≤ 1) (sym live_is)
-      (once_more id (object_at old.settings.align requested start size) old.memory.live live free
-      (one_more old.memory.live live (id, object_at old.settings.align requested start size) adds) kept.once other);
+      (once_more id (memory_object old.settings.align requested start size) old.memory.live live free
+      (one_more old.memory.live live (id, memory_object old.settings.align requested start size) adds) kept.once other);
   some = subst (λ (l : List (ℕ × Object)). All HasBytes l) (sym live_is)
-      (All-permutation HasBytes ((id, object_at old.settings.align requested start size) ∷ old.memory.live) live adds
-      (All-cons HasBytes (id, object_at old.settings.align requested start size) old.memory.live bytes kept.some));
+      (All-permutation HasBytes ((id, memory_object old.settings.align requested start size) ∷ old.memory.live) live adds
+      (All-cons HasBytes (id, memory_object old.settings.align requested start size) old.memory.live bytes kept.some));
   moves = ap (λ (s : Settings). s.realloc) settings_are ∙ kept.moves;
 }
   where
@@ -205,9 +206,9 @@ kept_made old new id requested size start live kept free some adds live_is setti
 
 makes : (old new : Heap) (id requested size : ℕ) → IsKept old → IsFree old id → 0 < size
     → requested ≤ unit_of old.settings.align size
-    → MakesObject old id requested size new → HasHistory old new (λ n. Alloc size ∷ []) (λ n. with_number n id) 0
+    → MakesHeapObject old id requested size new → HasHistory old new (λ n. Alloc size ∷ []) (λ n. with_number n id) 0
 makes old new id requested size kept free some aligned made =
-    let object : Object = object_at old.settings.align requested made.start size in
+    let object : Object = memory_object old.settings.align requested made.start size in
     record {
       changes = MakeOne id object ∷ [];
       are = (new, (found_none id old.memory.live free, record { makes = made; is = refl }), refl);
@@ -234,7 +235,7 @@ kept_freed old new id object fewer kept takes live_is settings_are = record {
   moves = ap (λ (s : Settings). s.realloc) settings_are ∙ kept.moves;
 }
 
-frees_object : (old new : Heap) (id : ℕ) (object : Object) → IsKept old → FreesObject old id object new
+frees_object : (old new : Heap) (id : ℕ) (object : Object) → IsKept old → FreesHeapObject old id object new
     → HasHistory old new (λ n. freeing old.settings.policy (n.number_of id)) stay 0
 frees_object old new id object kept freed = record {
   changes = FreeOne id object ∷ [];
@@ -253,7 +254,7 @@ frees_object old new id object kept freed = record {
       omega (arith, stays);
 }
 
-pub sweeps_once : (old new : Heap) → IsKept old → new ≡ swept old → HasHistory old new (λ n. replicate 1 SweepOp) stay 1
+pub sweeps_once : (old new : Heap) → IsKept old → new ≡ swept_heap old → HasHistory old new (λ n. replicate 1 SweepOp) stay 1
 sweeps_once old new kept is = record {
   changes = SweepAll ∷ [];
   are = (new, is, refl);
@@ -277,7 +278,7 @@ replaces : (old new : Heap) (id requested size : ℕ) → IsKept old → 0 < siz
 replaces old new id requested size kept some aligned is =
     let made = is.makes in
     let freed = is.frees in
-    let object : Object = object_at old.settings.align requested made.start size in
+    let object : Object = memory_object old.settings.align requested made.start size in
     let live : new.memory.live ≡ freed.live = ap (λ (h : Heap). h.memory.live) freed.is_new in
     let made_live : is.made.memory.live ≡ made.live = ap (λ (h : Heap). h.memory.live) made.is_new in
     let made_settings : is.made.settings ≡ old.settings = ap (λ (h : Heap). h.settings) made.is_new in
@@ -350,7 +351,7 @@ follows_free old new id free (inl (must, is)) =
 follows_free old new id free (inr (not, is)) =
     subst (λ (h : Heap). sum_by (id_weight id) h.memory.live ≡ 0) (sym is) free
 
-frees_free : (old new : Heap) (id : ℕ) → IsKept old → Frees old id new → IsFree new id
+frees_free : (old new : Heap) (id : ℕ) → IsKept old → FreesInHeap old id new → IsFree new id
 frees_free old new id kept freed =
     let live : freed.freed.memory.live ≡ freed.frees.live = ap (λ (h : Heap). h.memory.live) freed.frees.is_new in
     let own : id_weight id (id, freed.object) ≡ 1 = ap (λ (t : Bool). cond t 1 0) (itself id) in
@@ -413,12 +414,12 @@ tries old new id requested size making kept free some aligned (inl (is, made)) =
     subst (λ (m : Making). HasTried old id size m new) (sym is)
     (record { count = 0; few = omega arith; history = makes old new id requested size kept free some aligned made })
 tries old new id requested size making kept free some aligned (inr (none, again)) =
-    let first = sweeps_once old (swept old) kept refl in
+    let first = sweeps_once old (swept_heap old) kept refl in
     record {
       count = 1;
       few = omega arith;
-      history = follow old (swept old) new first
-          (attempts (swept old) new id requested size making first.kept free some aligned again);
+      history = follow old (swept_heap old) new first
+          (attempts (swept_heap old) new id requested size making first.kept free some aligned again);
     }
 
 pub record HasAllocated (old : Heap) (id size : ℕ) (was_live : Bool) (making : Making) (new : Heap) : Type 0 where
@@ -430,7 +431,7 @@ pub record HasAllocated (old : Heap) (id size : ℕ) (was_live : Bool) (making :
       (λ n. numbers_with n (made_entry making id size)) count
 
 pub allocates : (old new : Heap) (id requested size : ℕ) (outcome : Outcome) → IsKept old → 0 < size
-    → requested ≤ unit_of old.settings.align size → (is : Allocates old id requested size outcome new)
+    → requested ≤ unit_of old.settings.align size → (is : AllocatesInHeap old id requested size outcome new)
     → HasAllocated old id size is.was_live is.making new
 allocates old new id requested size outcome kept some aligned is =
     let first = clears old is.cleared id is.was_live kept is.clears in
@@ -504,7 +505,7 @@ pub record HasFreed (old : Heap) (id : ℕ) (new : Heap) : Type 0 where
   pub history : HasHistory old new (λ n. freeing old.settings.policy (n.number_of id) ++ replicate count SweepOp) stay count
   clean : as_number (is_swept_clean new) ≡ count
 
-pub frees_last : (old new : Heap) (id : ℕ) → IsKept old → Frees old id new → HasFreed old id new
+pub frees_last : (old new : Heap) (id : ℕ) → IsKept old → FreesInHeap old id new → HasFreed old id new
 frees_last old new id kept is =
     let first = frees_object old is.freed id is.object kept is.frees in
     let some : 0 < length_of is.object.span =
@@ -537,7 +538,7 @@ IsDone old event outcome new = old.totals.sweeps + 3 < 2 ^ 64 → HasDeeds old n
 
 -- an object alone is made, or nothing
 allocated : (old new : Heap) (event : Event) (id requested size : ℕ) (outcome told_outcome : Outcome) (unknown : Bool) → IsKept old → 0 < size
-    → requested ≤ unit_of old.settings.align size → (is : Allocates old id requested size told_outcome new)
+    → requested ≤ unit_of old.settings.align size → (is : AllocatesInHeap old id requested size told_outcome new)
     → ((clean : Bool) (sweeps : ℕ) → deeds_of event outcome sweeps clean ≡ record {
       cleared = if_live is.was_live id;
       sweeps = sweeps - 0;
@@ -644,8 +645,8 @@ placed cleared sweeps alloc last =
     append_assoc cleared (sweeps ++ alloc) last ∙ ap (λ (l : List Op). cleared ++ l) (append_assoc sweeps alloc last)
 
 pub moves : (old made new : Heap) (from to requested size : ℕ) (outcome : Outcome) → IsKept old → 0 < size
-    → requested ≤ unit_of old.settings.align size → (from ≡ to → ⊥) → (is : Allocates old to requested size outcome made)
-    → Frees made from new → HasMoved old (if_live is.was_live to) (made_entry is.making to size) from new
+    → requested ≤ unit_of old.settings.align size → (from ≡ to → ⊥) → (is : AllocatesInHeap old to requested size outcome made)
+    → FreesInHeap made from new → HasMoved old (if_live is.was_live to) (made_entry is.making to size) from new
 moves old made new from to requested size outcome kept some aligned differ is freed =
     let first = allocates old made to requested size outcome kept some aligned is in
     let second = frees_last made new from first.history.kept freed in
@@ -740,7 +741,7 @@ pub replaces_live : (old new : Heap) (id requested size : ℕ) (outcome : Outcom
     → HasMoved old None (made_entry is.making id size) id new
 replaces_live old new id requested size outcome kept some aligned is = by is.making is.tries is.follows
   where
-    freed_after : (tried : Heap) → HasHistory old tried (λ n. replicate 1 SweepOp) stay 1 → Frees tried id new
+    freed_after : (tried : Heap) → HasHistory old tried (λ n. replicate 1 SweepOp) stay 1 → FreesInHeap tried id new
         → HasMoved old None None id new
     freed_after tried first freed =
         let last = frees_last tried new id first.kept freed in
@@ -758,7 +759,7 @@ replaces_live old new id requested size outcome kept some aligned is = by is.mak
               (λ n. refl) refl;
         }
 
-    swept_same : (tried : Heap) → tried ≡ swept old → HasHistory old tried (λ n. replicate 1 SweepOp) stay 1
+    swept_same : (tried : Heap) → tried ≡ swept_heap old → HasHistory old tried (λ n. replicate 1 SweepOp) stay 1
     swept_same tried tried_is = sweeps_once old tried kept tried_is
 
     by : (making : Making) → TriesToReplace old id requested size making is.tried → FollowsReplacing is.tried id making new
@@ -766,7 +767,7 @@ replaces_live old new id requested size outcome kept some aligned is = by is.mak
     by Made (inl (made, replaced)) follows_is =
         replaced_once old old new id requested size 0 (omega arith) kept some aligned (same old old kept refl) is.tried replaced follows_is
     by Made (inr (none, replaced)) follows_is =
-        replaced_once old (swept old) new id requested size 1 (omega arith) kept some aligned (sweeps_once old (swept old) kept refl)
+        replaced_once old (swept_heap old) new id requested size 1 (omega arith) kept some aligned (sweeps_once old (swept_heap old) kept refl)
         is.tried replaced follows_is
     by NoRoom (inl (never, replaced)) follows_is = absurd (not_made never)
       where
@@ -867,7 +868,7 @@ freed_alone old new id outcome false kept (none, is) is_told =
     quiet old new (Free id) outcome 0 (omega arith) (same old new kept is)
     (λ clean sweeps. ap (λ (o : Outcome). deeds_of (Free id) o sweeps clean) is_told)
 
-asked : (old new : Heap) (outcome : Outcome) (of_trace : Bool) → IsKept old → new ≡ (if of_trace then swept old else old)
+asked : (old new : Heap) (outcome : Outcome) (of_trace : Bool) → IsKept old → new ≡ (if of_trace then swept_heap old else old)
     → outcome ≡ outcome_of false false None → IsDone old Sweep outcome new
 asked old new outcome true kept is is_told =
     quiet old new Sweep outcome 1 (omega arith) (sweeps_once old new kept is)

@@ -9,12 +9,12 @@ use Rattle.cc_formats.specs.declared.formats.Entry.{Entry}
 use Rattle.cc_heap.specs.declared.outcome.Outcome.{Outcome}
 use Rattle.cc_formats.specs.declared.reading.Progress.{Progress}
 use Rattle.cc_formats.specs.declared.reading.Reading.{Reading}
-use Rattle.cc_replay.specs.Counts.{with_event, with_failure, with_line, with_outcome}
+use Rattle.cc_replay.specs.Counts.{with_counted_event, with_failure, with_line, with_outcome}
 use Rattle.cc_heap.specs.Lost.{IsRunEvent, RunState}
 use Rattle.cc_formats.specs.Reading.{is_due, is_over, progress_after, reason_of}
 use Rattle.cc_heap.specs.Outcomes.{is_refused}
 use Rattle.cc_replay.specs.Replay.{ReplayState, TakesLine, TakesRest, at_entry, replaying, sample_text, time_after}
-use Rattle.cc_replay.specs.Taking.{AppendsEntry, AppendsEvent, Refuses, TakesEntry, next_entry}
+use Rattle.cc_replay.specs.Taking.{AppendsEntry, AppendsEvent, RefusesEntry, TakesEntry, next_entry}
 use Rattle.cc_replay.proofs.TakingLemmas.{entry_answers, rest_answers}
 
 -- the state after an event, by its parts
@@ -32,7 +32,7 @@ state_of run reading counts pending time progress is_sampled = record {
 pub event_taken : (old : ReplayState) (event : Event) (outcome : Outcome) (run : RunState) (counts : Counts) (time : ℕ) (progress : Progress)
     (sampled : Bool) (out out_now : List ℕ) (refused : Bool)
     → IsRunEvent old.run event outcome run
-    → counts ≡ with_outcome outcome (with_event event old.counts)
+    → counts ≡ with_outcome outcome (with_counted_event event old.counts)
     → time ≡ time_after event old.time
     → refused ≡ is_refused outcome
     → progress ≡ progress_after old.reading refused
@@ -69,7 +69,7 @@ line_replayed old entry line out out_now is_error new going is taken = entry_ans
 
 -- trailing bytes are refused
 pub rest_replayed : (old : ReplayState) (rest out : List ℕ) (is_error : Bool) (new : ReplayState)
-    → is_over old.progress ≡ false → Refuses (replaying.refused Unfinished (replaying.at_rest old)) [] is_error new
+    → is_over old.progress ≡ false → RefusesEntry (replaying.refused Unfinished (replaying.at_rest old)) [] is_error new
     → AnswersInto TakesRest old rest out out is_error new
 rest_replayed old rest out is_error new going refuses = rest_answers replaying old rest out is_error new going refuses
 

@@ -5,14 +5,14 @@ use Rattle.cc_io.proofs.DecimalLemmas.{one_digit}
 use Rattle.cc_heap.specs.declared.settings.Settings.{Settings}
 use Rattle.cc_replay.specs.declared.table.Row.{Row as RowValue}
 use Rattle.cc_replay.specs.declared.table.Value.TheVariants.{Sweeping}
-use Rattle.cc_replay.specs.Rows.{Row, rows_of}
+use Rattle.cc_replay.specs.Rows.{Row, table_rows}
 
 pub last_digit : (n : ℕ) → decimal (n % 10) ≡ (48 + n % 10) ∷ []
 last_digit n =
     let same : n % 10 % 10 ≡ n % 10 = omega arith in
     one_digit (n % 10) (omega arith) ∙ ap (λ (d : ℕ). (48 + d) ∷ []) same
 
-pub rows_after : (rows more : List RowValue) → rows_of (rows ++ more) ≡ rows_of rows ++ rows_of more
+pub rows_after : (rows more : List RowValue) → table_rows (rows ++ more) ≡ table_rows rows ++ table_rows more
 rows_after [] more = refl
 rows_after (row ∷ rows) more = ap (λ (others : List Row). record { name = row.name.now; value = row.value } ∷ others) (rows_after rows more)
 

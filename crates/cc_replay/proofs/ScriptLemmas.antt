@@ -24,7 +24,7 @@ use Rattle.cc_replay.specs.Operations.{Numbers, operation_lines}
 use Rattle.cc_replay.specs.Deeds.{DoesDeeds, NumberedIds, asked_entry, deed_operations, numbers_of, numbers_with, told_deeds, was_made}
 use Rattle.cc_replay.specs.Kept.{HasBytes, IsKept}
 use Rattle.cc_replay.specs.Script.{ScriptState, ScriptsLine, ScriptsRest, can_have, most_objects, scripting}
-use Rattle.cc_replay.specs.Taking.{AppendsEntry, AppendsEvent, Refuses, next_entry}
+use Rattle.cc_replay.specs.Taking.{AppendsEntry, AppendsEvent, RefusesEntry, next_entry}
 use Rattle.cc_replay.proofs.TakingLemmas.{entry_answers, rest_answers}
 use Rattle.cc_word.specs.declared.refusal.Refusal.TheVariants.{Unfinished}
 use Rattle.cc_replay.proofs.HistoryLemmas.{HasDeeds, clears, event_deeds}
@@ -209,6 +209,6 @@ line_scripted old entry line out out_now is_error new going is taken = entry_ans
 
 -- trailing bytes are refused
 pub rest_scripted : (old : ScriptState) (rest out : List ℕ) (is_error : Bool) (new : ScriptState)
-    → is_over old.progress ≡ false → Refuses (scripting.refused Unfinished old) [] is_error new
+    → is_over old.progress ≡ false → RefusesEntry (scripting.refused Unfinished old) [] is_error new
     → AnswersInto ScriptsRest old rest out out is_error new
 rest_scripted old rest out is_error new going refuses = rest_answers scripting old rest out is_error new going refuses

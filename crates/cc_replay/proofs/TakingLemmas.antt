@@ -6,7 +6,7 @@ use Rattle.cc_formats.specs.declared.formats.Entry.{Entry}
 use Rattle.cc_formats.specs.declared.reading.Progress.{Progress}
 use Rattle.cc_formats.specs.declared.reading.Progress.TheVariants.{Running, Stopped, OutOfMemory}
 use Rattle.cc_formats.specs.Reading.{is_over}
-use Rattle.cc_replay.specs.Taking.{AppendsEntry, Refuses, Taker, TakesLineIn, TakesNext, TakesRestIn, next_entry}
+use Rattle.cc_replay.specs.Taking.{AppendsEntry, RefusesEntry, Taker, TakesLineIn, TakesNext, TakesRestIn, next_entry}
 
 -- the next line is taken as its entry is
 pub entry_answers : {S : Type 0} (taker : Taker S) (old : S) (entry : Entry) (line out out_now : List ℕ) (is_error : Bool) (new : S)
@@ -25,7 +25,7 @@ entry_answers {S} taker old entry line out out_now is_error new going is taken =
 
 -- trailing bytes are refused
 pub rest_answers : {S : Type 0} (taker : Taker S) (old : S) (rest out : List ℕ) (is_error : Bool) (new : S)
-    → is_over (taker.progress old) ≡ false → Refuses (taker.refused Unfinished (taker.at_rest old)) [] is_error new
+    → is_over (taker.progress old) ≡ false → RefusesEntry (taker.refused Unfinished (taker.at_rest old)) [] is_error new
     → AnswersInto (λ (s : S). TakesRestIn taker (taker.progress s) s) old rest out out is_error new
 rest_answers {S} taker old rest out is_error new going refuses =
     record { text = []; out_is = sym (append-nil out); answered = by_progress (taker.progress old) going }

@@ -6,8 +6,8 @@ use Rattle.cc_placer.specs.declared.event.Event.{Event}
 use Rattle.cc_placer.specs.declared.event.Event.TheVariants.{Allocate}
 use Rattle.cc_heap.specs.declared.object.Object.{Object}
 use Rattle.cc_heap.specs.declared.outcome.Outcome.{Outcome}
-use Rattle.cc_heap.specs.Memory.{object_at}
-use Rattle.cc_heap.specs.Heap.{FreesObject, Heap, MakesObject, object_under, swept}
+use Rattle.cc_heap.specs.Memory.{memory_object}
+use Rattle.cc_heap.specs.Heap.{FreesHeapObject, Heap, MakesHeapObject, object_under, swept_heap}
 use Rattle.cc_heap.specs.Events.{IsEvent, size_of}
 
 -- A change: an object is made under an id, an object is freed, an object is made in place of another
@@ -20,8 +20,8 @@ pub data Change : Type 0 where
 
 -- MakesThis holds if `object` is made under the id.
 pub record MakesThis (old : Heap) (id : ℕ) (object : Object) (new : Heap) : Type 0 where
-  pub makes : MakesObject old id object.align object.size new
-  pub is : object ≡ object_at old.settings.align object.align makes.start object.size
+  pub makes : MakesHeapObject old id object.align object.size new
+  pub is : object ≡ memory_object old.settings.align object.align makes.start object.size
 
 -- ReplacesThis holds if `object` is made under a live id while the one before it is held, and then that
 -- one is freed.
@@ -29,14 +29,14 @@ pub record ReplacesThis (old : Heap) (id : ℕ) (before object : Object) (new : 
   pub is_live : object_under old id ≡ Some before
   pub made : Heap
   pub makes : MakesThis old id object made
-  pub frees : FreesObject made id before new
+  pub frees : FreesHeapObject made id before new
 
 -- IsChange holds if the change turns the heap `old` into `new`.
 abbrev pub IsChange : Heap → Change → Heap → Type 0
 IsChange old (Make id object) new = IsNone (object_under old id) × MakesThis old id object new
-IsChange old (Free id object) new = FreesObject old id object new
+IsChange old (Free id object) new = FreesHeapObject old id object new
 IsChange old (Replace id before object) new = ReplacesThis old id before object new
-IsChange old Sweep new = new ≡ swept old
+IsChange old Sweep new = new ≡ swept_heap old
 
 -- Changes holds if the changes turn the heap `old` into `new`, each from the heap that the one before
 -- left.

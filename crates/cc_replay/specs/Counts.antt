@@ -11,15 +11,15 @@ use Rattle.cc_heap.specs.Outcomes.{is_full, is_no_room}
 use Rattle.cc_heap.specs.Totals.{capped_count}
 
 -- The count with this line, which is the first if there was none.
-abbrev pub counted : (line : ℕ) → Count → Count
-counted line count = record {
+abbrev pub counted_events : (line : ℕ) → Count → Count
+counted_events line count = record {
   times = capped_count (count.times + 1);
   first = if count.times == 0 then line else count.first;
 }
 
 -- The count with this line, if it is one of the kind.
 abbrev pub counted_if : (is_one : Bool) → (line : ℕ) → Count → Count
-counted_if is_one line count = if is_one then counted line count else count
+counted_if is_one line count = if is_one then counted_events line count else count
 
 -- The counts with one more line.
 abbrev pub with_line : Counts → Counts
@@ -35,9 +35,9 @@ with_failure is_failure counts = record counts { failed = capped_count (counts.f
 
 -- The counts with the last line as one that is refused.
 abbrev pub with_refusal : Refusal → Counts → Counts
-with_refusal OutOfRange counts = record counts { range = counted counts.lines counts.range }
-with_refusal Unfinished counts = record counts { unfinished = counted counts.lines counts.unfinished }
-with_refusal _ counts = record counts { syntax = counted counts.lines counts.syntax }
+with_refusal OutOfRange counts = record counts { range = counted_events counts.lines counts.range }
+with_refusal Unfinished counts = record counts { unfinished = counted_events counts.lines counts.unfinished }
+with_refusal _ counts = record counts { syntax = counted_events counts.lines counts.syntax }
 
 -- The counts with one more event of the kind.
 abbrev pub with_kind : Event → Counts → Counts
@@ -59,8 +59,8 @@ with_kind Sweep counts = counts
 with_kind (Clock time) counts = counts
 
 -- The counts with the last line as this event.
-abbrev pub with_event : Event → Counts → Counts
-with_event event counts = with_kind event (record counts { events = capped_count (counts.events + 1) })
+abbrev pub with_counted_event : Event → Counts → Counts
+with_counted_event event counts = with_kind event (record counts { events = capped_count (counts.events + 1) })
 
 -- The counts with what came of the event of the last line.
 abbrev pub with_outcome : Outcome → Counts → Counts

@@ -72,9 +72,9 @@ abbrev pub numbers_of : NumberedIds → Numbers
 numbers_of ids = record { made = ids.made; number_of = λ id. unwrap_or (lookup (nat_eq id) ids.entries) 0 }
 
 -- The number of the object under an id, if there is one.
-abbrev pub number_in : Numbers → Option ℕ → Option ℕ
-number_in numbers (Some id) = Some (numbers.number_of id)
-number_in numbers None = None
+abbrev pub deed_number : Numbers → Option ℕ → Option ℕ
+deed_number numbers (Some id) = Some (numbers.number_of id)
+deed_number numbers None = None
 
 -- The operations of a free of the object of a number, if there is one.
 abbrev pub numbered_free : Policy → (number : Option ℕ) → List Op
@@ -83,7 +83,7 @@ numbered_free policy None = []
 
 -- The operations of a free of the object under an id, if there is one.
 abbrev pub free_operations : Policy → Numbers → Option ℕ → List Op
-free_operations policy numbers id = numbered_free policy (number_in numbers id)
+free_operations policy numbers id = numbered_free policy (deed_number numbers id)
 
 -- The operations by which an object is made, if there is one.
 abbrev pub alloc_operations : Option MadeEntry → List Op
@@ -101,7 +101,7 @@ numbered_operations policy cleared freed deeds =
 -- The operations of deeds, from these numbers on.
 abbrev pub deed_operations : Policy → Numbers → Deeds → List Op
 deed_operations policy numbers deeds =
-    numbered_operations policy (number_in numbers deeds.cleared) (number_in numbers deeds.freed) deeds
+    numbered_operations policy (deed_number numbers deeds.cleared) (deed_number numbers deeds.freed) deeds
 
 -- The numbers after deeds.
 abbrev pub numbers_with : Numbers → Option MadeEntry → Numbers

@@ -4,7 +4,7 @@ use Rattle.cc_bounds.specs.Span.{length_of}
 use Rattle.cc_heap.specs.declared.object.Object.{Object}
 use Rattle.cc_heap.specs.declared.reallocation.Reallocation.TheVariants.{Move}
 use Rattle.cc_heap.specs.Heap.{Heap}
-use Rattle.cc_heap.specs.Memory.{span_of}
+use Rattle.cc_heap.specs.Memory.{object_span}
 
 -- 1 for an entry of the id.
 abbrev pub id_weight : (id : ℕ) → ℕ × Object → ℕ
@@ -16,7 +16,7 @@ AreOnce heap = (id : ℕ) → sum_by (id_weight id) heap.memory.live ≤ 1
 
 -- HasBytes holds if the object of an entry has bytes.
 abbrev pub HasBytes : ℕ × Object → Type 0
-HasBytes entry = 0 < length_of (span_of entry)
+HasBytes entry = 0 < length_of (object_span entry)
 
 -- IsKept holds if each id has one entry at most, each object has bytes, and reallocations move objects.
 pub record IsKept (heap : Heap) : Type 0 where

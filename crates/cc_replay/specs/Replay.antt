@@ -15,10 +15,10 @@ use Rattle.cc_formats.specs.declared.reading.SampleReason.{SampleReason}
 use Rattle.cc_formats.specs.declared.reading.SampleReason.TheVariants.{Last}
 use Rattle.cc_replay.specs.declared.summary.Figures.{Figures}
 use Rattle.cc_heap.specs.Outcomes.{is_refused}
-use Rattle.cc_replay.specs.Counts.{with_event, with_failure, with_line, with_outcome, with_refusal}
+use Rattle.cc_replay.specs.Counts.{with_counted_event, with_failure, with_line, with_outcome, with_refusal}
 use Rattle.cc_formats.specs.Formats.{entry_in, has_pointers}
 use Rattle.cc_heap.specs.Lost.{IsRunEvent, RunState}
-use Rattle.cc_heap.specs.Memory.{IsSound, usage_of}
+use Rattle.cc_heap.specs.Memory.{IsSoundMemory, usage_of}
 use Rattle.cc_formats.specs.Reading.{is_due, progress_after, reason_of}
 use Rattle.cc_replay.specs.Rows.{names_line, values_line}
 use Rattle.cc_replay.specs.Summary.{sample_rows}
@@ -102,10 +102,10 @@ pub record TakesEvent (old : ReplayState) (event : Event) (text : List ℕ) (is_
   pub is_event : IsRunEvent old.run event outcome run
   pub is_new : new ≡ record old {
     run = run;
-    counts = with_outcome outcome (with_event event old.counts);
+    counts = with_outcome outcome (with_counted_event event old.counts);
     time = time_after event old.time;
     progress = progress_after old.reading (is_refused outcome);
-    is_sampled = is_due old.reading (with_event event old.counts).events old.run.heap.totals.sweeps run.heap.totals.sweeps;
+    is_sampled = is_due old.reading (with_counted_event event old.counts).events old.run.heap.totals.sweeps run.heap.totals.sweeps;
   }
   pub error_is : is_error ≡ is_refused outcome
   pub text_is : text ≡ sample_text new.is_sampled (reason_of new.reading new.counts.events) new
@@ -113,7 +113,7 @@ pub record TakesEvent (old : ReplayState) (event : Event) (text : List ℕ) (is_
 -- RunsOut holds if memory ran out in an event: nothing is written, and no further line is taken.
 pub record RunsOut (old : ReplayState) (text : List ℕ) (is_error : Bool) (new : ReplayState) : Type 0 where
   pub run : RunState
-  pub sound : IsSound run.heap.settings.align run.heap.memory
+  pub sound : IsSoundMemory run.heap.settings.align run.heap.memory
   pub is_new : new ≡ record old { run = run; progress = OutOfMemory }
   pub error_is : is_error ≡ false
   pub text_is : text ≡ []

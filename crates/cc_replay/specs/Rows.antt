@@ -50,16 +50,16 @@ pub record Row : Type 0 where
   pub value : Value
 
 -- The rows of a table.
-abbrev pub rows_of : List RowValue → List Row
-rows_of rows = map (λ row. record { name = row.name.now; value = row.value }) rows
+abbrev pub table_rows : List RowValue → List Row
+table_rows rows = map (λ row. record { name = row.name.now; value = row.value }) rows
 
 -- A byte of a name in a key of JSON: an underscore for a dot, since a dot selects a member in the languages that read JSON.
 abbrev pub key_byte : (byte : ℕ) → ℕ
 key_byte byte = if byte == 46 then 95 else byte
 
 -- The key of a name in JSON.
-abbrev pub key_text : (name : List ℕ) → List ℕ
-key_text name = map key_byte name
+abbrev pub json_key : (name : List ℕ) → List ℕ
+json_key name = map key_byte name
 
 -- The text of a row in a part of an output.
 unfoldable pub item_text : Part → Row → List ℕ
@@ -68,7 +68,7 @@ item_text Name row = row.name
 item_text Quantity row = value_text row.value
 item_text Heading row = row.name
 item_text Cell row = value_text row.value
-item_text Member row = codes "\"" ++ key_text row.name ++ codes "\": " ++ member_text row.value
+item_text Member row = codes "\"" ++ json_key row.name ++ codes "\": " ++ member_text row.value
 
 -- The bytes between two rows.
 abbrev pub separator_of : Part → List ℕ

@@ -23,9 +23,9 @@ pub record Taker (S : Type 0) : Type 1 where
   pub refused : Refusal → S → S
   pub takes_event : (old : S) (event : Event) (text : List ℕ) (is_error : Bool) (new : S) → Type 0
 
--- Refuses holds if a line or trailing bytes are refused, which leads to the state `refused`, and nothing is
+-- RefusesEntry holds if a line or trailing bytes are refused, which leads to the state `refused`, and nothing is
 -- written.
-pub record Refuses {S : Type 0} (refused : S) (text : List ℕ) (is_error : Bool) (new : S) : Type 0 where
+pub record RefusesEntry {S : Type 0} (refused : S) (text : List ℕ) (is_error : Bool) (new : S) : Type 0 where
   pub is_new : new ≡ refused
   pub error_is : is_error ≡ true
   pub text_is : text ≡ []
@@ -38,7 +38,7 @@ Passes {S} old text is_error new = (text ≡ []) × (is_error ≡ false) × (new
 abbrev pub TakesEntry : {S : Type 0} → Taker S → (old : S) → Result (Option Event) Refusal → (text : List ℕ) → (is_error : Bool) → (new : S) → Type 0
 TakesEntry {S} taker old (Ok (Some event)) text is_error new = taker.takes_event old event text is_error new
 TakesEntry {S} taker old (Ok None) text is_error new = Passes old text is_error new
-TakesEntry {S} taker old (Err refusal) text is_error new = Refuses (taker.refused refusal old) text is_error new
+TakesEntry {S} taker old (Err refusal) text is_error new = RefusesEntry (taker.refused refusal old) text is_error new
 
 -- The entry of the next line, in the format of the trace.
 abbrev pub next_entry : {S : Type 0} → Taker S → S → (line : List ℕ) → Entry
@@ -57,7 +57,7 @@ TakesLineIn {S} taker _ old line text is_error new = Passes old text is_error ne
 -- TakesRestIn holds if trailing bytes are noted and refused by a taker with this progress, unless no further line
 -- is taken.
 abbrev pub TakesRestIn : {S : Type 0} → Taker S → Progress → (old : S) → (rest text : List ℕ) → (is_error : Bool) → (new : S) → Type 0
-TakesRestIn {S} taker Running old rest text is_error new = Refuses (taker.refused Unfinished (taker.at_rest old)) text is_error new
+TakesRestIn {S} taker Running old rest text is_error new = RefusesEntry (taker.refused Unfinished (taker.at_rest old)) text is_error new
 TakesRestIn {S} taker _ old rest text is_error new = Passes old text is_error new
 
 -- AppendsEvent holds if an event is taken, and its text is appended to the output.

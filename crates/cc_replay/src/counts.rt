@@ -1,7 +1,8 @@
 //! The counts of the lines of a trace, and of what comes of its events.
 ghost use Rattle.std.specs.Prelude.{◌≡◌};
 ghost use Rattle.cc_heap.specs.Outcomes.{is_full, is_no_room};
-ghost use Rattle.cc_replay.specs.Counts.{counted, counted_if, with_event, with_failure, with_line, with_outcome};
+ghost use Rattle.cc_replay.specs.Counts.{counted_events, counted_if, with_counted_event};
+ghost use Rattle.cc_replay.specs.Counts.{with_failure, with_line, with_outcome};
 ghost use Rattle.cc_replay.specs.Counts.{with_refusal};
 
 use cc_heap::{Event, Making, Outcome};
@@ -65,7 +66,7 @@ impl Count {
 
     /// Returns the count with this line.
     fn counted(self, line: u64) -> Count
-        ensures { result ≡ counted line self }
+        ensures { result ≡ counted_events line self }
     {
         Count {
             times: self.times.saturating_add(1),
@@ -119,7 +120,7 @@ impl Counts {
 
     /// Returns the counts with the last line as this event.
     pub(crate) fn with_event(self, event: Event) -> Counts
-        ensures { result ≡ with_event event self }
+        ensures { result ≡ with_counted_event event self }
     {
         let counts = Counts {
             events: self.events.saturating_add(1),

@@ -3,7 +3,7 @@ ghost use Rattle.std.specs.Prelude.{◌≡◌, ◌≤◌, ◌+◌, ◌^◌, ◌+
 ghost use Rattle.cc_io.specs.Devices.{SendsBytes};
 ghost use Rattle.arrayvec.specs.ArrayVec.{array_vec_len};
 ghost use Rattle.cc_replay.specs.Replay.{TakesLine, TakesRest};
-ghost use Rattle.cc_replay.specs.Rows.{rows_of};
+ghost use Rattle.cc_replay.specs.Rows.{table_rows};
 ghost use Rattle.cc_replay.specs.Group.{
   EachTakes,
   any_ran_out,
@@ -244,7 +244,7 @@ fn push_replays<P: Placer, const N: usize>(
 
 /// Returns the row of a replay in the table.
 fn rows_with_policy<P: Placer>(replay: &Replay<P>) -> ArrayVec<Row, MOST_ROWS>
-    ensures value { rows_of result.items ≡ policy_rows replay.now }
+    ensures value { table_rows result.items ≡ policy_rows replay.now }
     ensures few { array_vec_len result ≤ 44 }
 {
     policy_rows(replay.settings().policy, &replay.figures())

@@ -1,6 +1,6 @@
 //! The numbers of objects.
 ghost use Rattle.std.specs.Prelude.{◌≡◌, [], ◌<◌, IfSome, OnOk};
-ghost use Rattle.cc_replay.specs.Deeds.{number_in, numbers_of, numbers_with};
+ghost use Rattle.cc_replay.specs.Deeds.{deed_number, numbers_of, numbers_with};
 ghost use Rattle.cc_replay.specs.Script.{most_objects};
 
 use crate::deeds::MadeEntry;
@@ -43,7 +43,7 @@ impl Numbering {
 
     /// Returns the number of the object that was made last under an id, if there is one.
     pub fn number_in(&self, id: Option<u64>) -> Option<u32>
-        ensures { result ≡ number_in (numbers_of self.now) id }
+        ensures { result ≡ deed_number (numbers_of self.now) id }
     {
         match id {
             Some(id) => Some(self.numbers.get(&id).copied().unwrap_or(0)),

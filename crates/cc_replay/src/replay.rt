@@ -11,7 +11,7 @@ ghost use Rattle.cc_heap.specs.Lost.{empty_run};
 ghost use Rattle.cc_heap.specs.Peaks.{without_peaks};
 ghost use Rattle.cc_replay.specs.Replay.{TakesLine, TakesRest, begun, figures_of, last_sample, most_sample};
 ghost use Rattle.cc_replay.specs.Replay.{replaying, series_header, time_after};
-ghost use Rattle.cc_replay.specs.Taking.{AppendsEntry, AppendsEvent, Refuses, TakesUnwritten, next_entry};
+ghost use Rattle.cc_replay.specs.Taking.{AppendsEntry, AppendsEvent, RefusesEntry, TakesUnwritten, next_entry};
 
 use crate::counts::{Count, Counts};
 use crate::series::{MOST_SAMPLE, push_sample, push_series_header};
@@ -258,7 +258,7 @@ impl<P: Placer> Replay<P> {
 
     /// Counts the last line as refused.
     fn refuse(&mut self, refusal: Refusal) -> bool
-        ensures { Refuses (replaying.refused refusal self.old) [] result self.new }
+        ensures { RefusesEntry (replaying.refused refusal self.old) [] result self.new }
     {
         self.counts = self.counts.with_refusal(refusal);
         self.progress = self.reading.progress_after(true);

@@ -1,8 +1,8 @@
 //! Tables of names and values, and their text in each format.
 ghost use Rattle.std.specs.Prelude.{◌≡◌, ◌≤◌, ◌+◌, ◌*◌, ◌%◌, ◌++◌, decimal, length};
-ghost use Rattle.cc_replay.specs.Rows.{between_rows, item_text, items_text, key_text};
+ghost use Rattle.cc_replay.specs.Rows.{between_rows, item_text, items_text, json_key};
 ghost use Rattle.cc_replay.specs.Rows.{member_text, more_items, names_line, parts_of};
-ghost use Rattle.cc_replay.specs.Rows.{percent_text, reason_text, row_text, rows_of};
+ghost use Rattle.cc_replay.specs.Rows.{percent_text, reason_text, row_text, table_rows};
 ghost use Rattle.cc_replay.specs.Rows.{separator_of, table_text, value_text, values_line};
 
 use crate::policy_text::push_policy;
@@ -30,7 +30,7 @@ pub(crate) fn parts_of(part: u128, whole: u128) -> u128
 /// Requires: for each row 200 bytes fit the page, and 8 more.
 pub(crate) fn push_table<const N: usize>(page: &mut Page<N>, format: Format, rows: &[Row])
     requires { length page.old + 200 * length rows.now + 8 ≤ N }
-    ensures { page.new ≡ page.old ++ table_text format (rows_of rows.now) }
+    ensures { page.new ≡ page.old ++ table_text format (table_rows rows.now) }
 {
     match format {
         Format::Text => push_items(page, Part::Line, rows),
@@ -50,7 +50,7 @@ pub(crate) fn push_table<const N: usize>(page: &mut Page<N>, format: Format, row
 #[tactic(auto, unfolding(crate::specs::Rows::names_line))]
 pub(crate) fn push_names<const N: usize>(page: &mut Page<N>, rows: &[Row])
     requires { length page.old + 100 * length rows.now + 1 ≤ N }
-    ensures value { page.new ≡ page.old ++ names_line (rows_of rows.now) }
+    ensures value { page.new ≡ page.old ++ names_line (table_rows rows.now) }
     ensures fits { length page.new ≤ length page.old + 100 * length rows.now + 1 }
 {
     push_items(page, Part::Name, rows);
@@ -61,7 +61,7 @@ pub(crate) fn push_names<const N: usize>(page: &mut Page<N>, rows: &[Row])
 #[tactic(auto, unfolding(crate::specs::Rows::values_line))]
 pub(crate) fn push_values<const N: usize>(page: &mut Page<N>, rows: &[Row])
     requires { length page.old + 100 * length rows.now + 1 ≤ N }
-    ensures value { page.new ≡ page.old ++ values_line (rows_of rows.now) }
+    ensures value { page.new ≡ page.old ++ values_line (table_rows rows.now) }
     ensures fits { length page.new ≤ length page.old + 100 * length rows.now + 1 }
 {
     push_items(page, Part::Quantity, rows);
@@ -82,7 +82,7 @@ pub(crate) fn between_rows(format: Format) -> &'static [u8]
 /// Appends the values of a row of a table of several.
 pub(crate) fn push_row<const N: usize>(page: &mut Page<N>, format: Format, row: &[Row])
     requires { length page.old + 100 * length row.now + 2 ≤ N }
-    ensures value { page.new ≡ page.old ++ row_text format (rows_of row.now) }
+    ensures value { page.new ≡ page.old ++ row_text format (table_rows row.now) }
     ensures fits { length page.new ≤ length page.old + 100 * length row.now + 2 }
 {
     match format {
@@ -102,7 +102,7 @@ pub(crate) fn push_row<const N: usize>(page: &mut Page<N>, format: Format, row: 
 /// Appends a part of a table: its rows, with the separator between.
 pub(crate) fn push_items<const N: usize>(page: &mut Page<N>, part: Part, rows: &[Row])
     requires { length page.old + 100 * length rows.now ≤ N }
-    ensures value { page.new ≡ page.old ++ items_text part (rows_of rows.now) }
+    ensures value { page.new ≡ page.old ++ items_text part (table_rows rows.now) }
     ensures fits { length page.new ≤ length page.old + 100 * length rows.now }
 {
     if let Some((row, rest)) = rows.split_first() {
@@ -114,7 +114,7 @@ pub(crate) fn push_items<const N: usize>(page: &mut Page<N>, part: Part, rows: &
 /// Appends rows after another, each with a separator before it.
 fn push_more<const N: usize>(page: &mut Page<N>, part: Part, rows: &[Row])
     requires { length page.old + 100 * length rows.now ≤ N }
-    ensures value { page.new ≡ page.old ++ more_items part (rows_of rows.now) }
+    ensures value { page.new ≡ page.old ++ more_items part (table_rows rows.now) }
     ensures fits { length page.new ≤ length page.old + 100 * length rows.now }
 {
     let mut rest = rows;
@@ -166,7 +166,7 @@ fn push_item<const N: usize>(page: &mut Page<N>, part: Part, row: &Row)
 /// Appends the key of a name in JSON.
 fn push_key<const N: usize>(page: &mut Page<N>, name: &[u8])
     requires { length page.old + length name.now ≤ N }
-    ensures value { page.new ≡ page.old ++ key_text name.now }
+    ensures value { page.new ≡ page.old ++ json_key name.now }
     ensures fits { length page.new ≡ length page.old + length name.now }
 {
     let mut rest = name;

@@ -13,7 +13,7 @@ ghost use Rattle.cc_heap.specs.Events.{IsEvent};
 ghost use Rattle.cc_replay.specs.Operations.{operation_lines};
 ghost use Rattle.cc_replay.specs.Deeds.{DoesDeeds, deed_operations, is_swept_clean, numbers_of, numbers_with};
 ghost use Rattle.cc_replay.specs.Script.{ScriptsLine, ScriptsRest, can_have, most_objects, script_begun, scripting};
-ghost use Rattle.cc_replay.specs.Taking.{AppendsEntry, AppendsEvent, Refuses};
+ghost use Rattle.cc_replay.specs.Taking.{AppendsEntry, AppendsEvent, RefusesEntry};
 
 use crate::deeds::Deeds;
 use crate::doing::{asked_entry, asks_for_unit, deeds_of};
@@ -130,7 +130,7 @@ impl<P: Placer> Script<P> {
 
     /// Refuses a line.
     fn refuse(&mut self) -> bool
-        ensures { Refuses (scripting.refused Unfinished self.old) [] result self.new }
+        ensures { RefusesEntry (scripting.refused Unfinished self.old) [] result self.new }
     {
         self.progress = self.reading.progress_after(true);
         true

@@ -2,7 +2,7 @@
 ghost use Rattle.std.specs.Prelude.{◌≡◌, ◌≤◌, ◌+◌, ◌*◌, ◌^◌, ◌++◌, length};
 ghost use Rattle.cc_formats.specs.declared.reading.SampleReason.TheVariants.{Last};
 ghost use Rattle.cc_replay.specs.Replay.{most_sample};
-ghost use Rattle.cc_replay.specs.Rows.{names_line, rows_of, values_line};
+ghost use Rattle.cc_replay.specs.Rows.{names_line, table_rows, values_line};
 ghost use Rattle.cc_replay.specs.Summary.{sample_rows};
 
 use crate::row;
@@ -46,7 +46,7 @@ pub fn push_sample<const N: usize>(
 
 /// Returns the rows of a sample.
 fn sample_rows(reason: SampleReason, time: u64, figures: &Figures) -> [Row; 14]
-    ensures { rows_of result ≡ sample_rows reason time figures.now }
+    ensures { table_rows result ≡ sample_rows reason time figures.now }
 {
     let Figures {
         counts,

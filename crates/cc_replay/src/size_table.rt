@@ -1,7 +1,7 @@
 //! The table of the objects that were made, by the powers of two of their sizes.
 ghost use Rattle.std.specs.Prelude.{◌≡◌, ◌≤◌, ◌<◌, ◌+◌, ◌^◌, ◌++◌, length, false, Err, OnErr};
 ghost use Rattle.cc_io.specs.Devices.{SendsBytes};
-ghost use Rattle.cc_replay.specs.Rows.{rows_of};
+ghost use Rattle.cc_replay.specs.Rows.{table_rows};
 ghost use Rattle.cc_replay.specs.SizeTable.{all_sizes, size_rows, sizes_text};
 
 use crate::row;
@@ -79,7 +79,7 @@ fn push_rows<const N: usize>(page: &mut Page<N>, format: Format, sizes: &[SizeTo
 /// Returns the names and values of the row of a power of two.
 fn size_rows(power: u32, totals: &SizeTotals) -> [Row; 6]
     requires { power < 64 }
-    ensures { rows_of result ≡ size_rows power totals.now }
+    ensures { table_rows result ≡ size_rows power totals.now }
 {
     let from = power_of_two(power);
     [

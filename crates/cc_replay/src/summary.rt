@@ -2,7 +2,7 @@
 ghost use Rattle.std.specs.Prelude.{◌≡◌, ◌≤◌, ◌<◌, ◌+◌, ◌-◌, ◌∷◌, ◌++◌, codes, length, false, true, Err, OnErr};
 ghost use Rattle.arrayvec.specs.ArrayVec.{array_vec_len};
 ghost use Rattle.cc_io.specs.Devices.{SendsBytes};
-ghost use Rattle.cc_replay.specs.Rows.{rows_of, table_text};
+ghost use Rattle.cc_replay.specs.Rows.{table_rows, table_text};
 ghost use Rattle.cc_replay.specs.Summary.{end_rows, failure_rows, line_rows, made_rows, peak_rows, refusal_rows};
 ghost use Rattle.cc_replay.specs.Summary.{summary_rows};
 ghost use Rattle.cc_replay.specs.declared.table.Value.TheVariants.{Sweeping};
@@ -64,7 +64,7 @@ fn push_summary<const N: usize>(page: &mut Page<N>, figures: &Figures, format: F
 
 /// Returns the row of a policy, and the rows of a summary.
 pub(crate) fn policy_rows(policy: Policy, figures: &Figures) -> ArrayVec<Row, MOST_ROWS>
-    ensures value { rows_of result.items
+    ensures value { table_rows result.items
         ≡ record { name = codes "policy"; value = Sweeping policy } ∷ summary_rows figures.now }
     ensures few { array_vec_len result ≤ 44 }
 {
@@ -80,7 +80,7 @@ pub(crate) fn policy_rows(policy: Policy, figures: &Figures) -> ArrayVec<Row, MO
 
 /// Returns the rows of a summary.
 fn summary_rows(figures: &Figures) -> ArrayVec<Row, MOST_ROWS>
-    ensures value { rows_of result.items ≡ summary_rows figures.now }
+    ensures value { table_rows result.items ≡ summary_rows figures.now }
     ensures few { array_vec_len result ≤ 43 }
 {
     let mut rows = ArrayVec::new();
@@ -99,7 +99,7 @@ fn summary_rows(figures: &Figures) -> ArrayVec<Row, MOST_ROWS>
 #[tactic(auto, using(crate::proofs::RowLemmas::rows_after))]
 fn append_rows(rows: &mut ArrayVec<Row, MOST_ROWS>, more: &[Row])
     requires { array_vec_len rows.old + length more.now ≤ 44 }
-    ensures value { rows_of rows.new.items ≡ rows_of rows.old.items ++ rows_of more.now }
+    ensures value { table_rows rows.new.items ≡ table_rows rows.old.items ++ table_rows more.now }
     ensures len { array_vec_len rows.new ≡ array_vec_len rows.old + length more.now }
 {
     let _ = rows.try_extend_from_slice(more);
@@ -107,7 +107,7 @@ fn append_rows(rows: &mut ArrayVec<Row, MOST_ROWS>, more: &[Row])
 
 /// Returns the rows of the lines of a trace, by kind.
 fn line_rows(counts: &Counts) -> [Row; 8]
-    ensures { rows_of result ≡ line_rows counts.now }
+    ensures { table_rows result ≡ line_rows counts.now }
 {
     [
         row!(b"lines", counts.lines),
@@ -123,7 +123,7 @@ fn line_rows(counts: &Counts) -> [Row; 8]
 
 /// Returns the rows of the lines that are not events, and of the events that are refused.
 fn refusal_rows(counts: &Counts) -> [Row; 16]
-    ensures { rows_of result ≡ refusal_rows counts.now }
+    ensures { table_rows result ≡ refusal_rows counts.now }
 {
     [
         row!(b"refused.syntax", counts.syntax.times),
@@ -147,7 +147,7 @@ fn refusal_rows(counts: &Counts) -> [Row; 16]
 
 /// Returns the rows of all objects that were made.
 fn made_rows(totals: &Totals) -> [Row; 5]
-    ensures { rows_of result ≡ made_rows totals.now }
+    ensures { table_rows result ≡ made_rows totals.now }
 {
     let padding = parts_of(
         totals.made_padded.saturating_sub(totals.made_asked),
@@ -167,7 +167,7 @@ fn made_rows(totals: &Totals) -> [Row; 5]
 
 /// Returns the rows of the peaks and of the sweeps.
 fn peak_rows(totals: &Totals) -> [Row; 9]
-    ensures { rows_of result ≡ peak_rows totals.now }
+    ensures { table_rows result ≡ peak_rows totals.now }
 {
     [
         row!(b"peak.objects", totals.peak_objects),
@@ -184,14 +184,14 @@ fn peak_rows(totals: &Totals) -> [Row; 9]
 
 /// Returns the row of the objects that the program could not make.
 fn failure_rows(counts: &Counts) -> [Row; 1]
-    ensures { rows_of result ≡ failure_rows true counts.now }
+    ensures { table_rows result ≡ failure_rows true counts.now }
 {
     [row!(b"failed", counts.failed)]
 }
 
 /// Returns the rows of the heap at the end.
 fn end_rows(usage: &Usage) -> [Row; 4]
-    ensures { rows_of result ≡ end_rows usage.now }
+    ensures { table_rows result ≡ end_rows usage.now }
 {
     [
         row!(b"end.objects", usage.objects),

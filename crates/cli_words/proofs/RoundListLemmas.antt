@@ -12,7 +12,7 @@ use Rattle.cc_io.specs.declared.summary.Summary.{Summary}
 use Rattle.cc_io.proofs.ServingLemmas.{Makes, serves_pumped}
 use Rattle.cli_words.specs.BareDigits.{is_bare_line}
 use Rattle.cli_words.specs.RoundList.{IsLengthAnswer, AreLengthAnswers, AreRoundings, RoundsList}
-use Rattle.cli_words.specs.Rounder.{AnswersLength, RefusesRest}
+use Rattle.cli_words.specs.Rounder.{AnswersLength, RefusesLastBytes}
 use Rattle.cli_words.specs.declared.length_list.Rounder.{Rounder}
 
 -- ---- lines and what a rounder sees of them
@@ -70,12 +70,12 @@ bare_seen old new (line ∷ each) (answer ∷ answers) t =
 bare_seen old new [] (answer ∷ answers) t = absurd t
 bare_seen old new (line ∷ each) [] t = absurd t
 
-bare_stays : (old new : Rounder) (rest : List ℕ) (ending : Answer) → EndsWith RefusesRest old rest ending new → new.bare ≡ old.bare
+bare_stays : (old new : Rounder) (rest : List ℕ) (ending : Answer) → EndsWith RefusesLastBytes old rest ending new → new.bare ≡ old.bare
 bare_stays old new [] ending e = ap (λ (r : Rounder). r.bare) e.2
 bare_stays old new (byte ∷ rest) ending e = e.2
 
 -- the replies of a rounder have its base
-makes : (old new : Rounder) → old.bare ≡ false → Makes AnswersLength RefusesRest (AreRoundings old.base new.bare) old new
+makes : (old new : Rounder) → old.bare ≡ false → Makes AnswersLength RefusesLastBytes (AreRoundings old.base new.bare) old new
 makes old new unseen = record {
   are = λ each answers mid rest ending takes ends. (
     answers_are old mid each answers takes,
@@ -86,6 +86,6 @@ makes old new unseen = record {
 
 -- what the pump promises of a rounder is what `round_list` promises
 pub rounds_pumped : (old new : Rounder) (pending : List ℕ) (c j : InputState) (t u : OutputState) (result : Result Summary IoError) → old.bare ≡ false → pending ≡ [] → IsOutcome j u result
-    → Pumps (λ (state : Rounder). false) AnswersLength RefusesRest lines 32768 264 old pending c.unread j.unread t.taken u.taken result new → RoundsList old.base new.bare c j t u result
+    → Pumps (λ (state : Rounder). false) AnswersLength RefusesLastBytes lines 32768 264 old pending c.unread j.unread t.taken u.taken result new → RoundsList old.base new.bare c j t u result
 rounds_pumped old new pending c j t u result unseen none outcome p =
-    serves_pumped AnswersLength RefusesRest (AreRoundings old.base new.bare) old new (makes old new unseen) lines 32768 264 pending [] c j t u result none outcome p
+    serves_pumped AnswersLength RefusesLastBytes (AreRoundings old.base new.bare) old new (makes old new unseen) lines 32768 264 pending [] c j t u result none outcome p

@@ -17,17 +17,17 @@ use Rattle.cli_words.specs.ListLine.{line_parts}
 use Rattle.cli_words.specs.Rounding.{IsRoundingFrom, IsUnroundable}
 
 -- The length and the base of the parts of a line, or the first error: a base of the line takes the place of the given one.
-abbrev pub request_of : (base : Option ℕ) (parts : List ℕ × Option (List ℕ)) → Result (ℕ × Option ℕ) Refusal
-request_of base (size, None) = changed (λ number. (number, base)) (length_in size)
-request_of base (size, Some own) = changed (λ numbers. (numbers.0, Some numbers.1)) (both (length_in size) (address_in own))
+abbrev pub line_request : (base : Option ℕ) (parts : List ℕ × Option (List ℕ)) → Result (ℕ × Option ℕ) Refusal
+line_request base (size, None) = changed (λ number. (number, base)) (length_in size)
+line_request base (size, Some own) = changed (λ numbers. (numbers.0, Some numbers.1)) (both (length_in size) (address_in own))
 
 -- The length and the base of a line.
 abbrev pub listed_in : (base : Option ℕ) (line : List ℕ) → Result (ℕ × Option ℕ) Refusal
-listed_in base line = request_of base (line_parts line)
+listed_in base line = line_request base (line_parts line)
 
--- IsListed holds if `answer` is the output for a line: that for its length from its base, or the line of the refusal.
-abbrev pub IsListed : (base : Option ℕ) (line answer : List ℕ) → Type 0
-IsListed base line answer = AnswersResult (λ found. IsRoundingFrom found.1 found.0) (listed_in base line) answer
+-- IsListedLine holds if `answer` is the output for a line: that for its length from its base, or the line of the refusal.
+abbrev pub IsListedLine : (base : Option ℕ) (line answer : List ℕ) → Type 0
+IsListedLine base line answer = AnswersResult (λ found. IsRoundingFrom found.1 found.0) (listed_in base line) answer
 
 -- IsUnlisted holds if this output is a refusal.
 abbrev pub IsUnlisted : (base : Option ℕ) (line : List ℕ) → Type 0
@@ -37,7 +37,7 @@ IsUnlisted base line = MatchResult (listed_in base line) (λ found. IsUnroundabl
 -- line of at most 128 bytes, and `error 3 long` for a longer one. It is an error for a line that is
 -- longer, is not a length or a length and a base, or has no rounding at the base.
 pub record IsLengthAnswer (base : Option ℕ) (line : List ℕ) (answer : Answer) : Type 0 where
-  pub short : length line ≤ 128 → IsListed base line answer.text
+  pub short : length line ≤ 128 → IsListedLine base line answer.text
   pub long : 128 < length line → IsRefusalLine TooLong answer.text
   pub error_is : IsTrue answer.is_error ↔ (IsUnlisted base line ⊎ (128 < length line))
 

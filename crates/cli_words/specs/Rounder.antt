@@ -11,6 +11,6 @@ use Rattle.cli_words.specs.declared.length_list.Rounder.{Rounder}
 abbrev pub AnswersLength : Relation Rounder
 AnswersLength old line text is_error new = IsLengthAnswer old.base line (record { text = text; is_error = is_error }) × (new.base ≡ old.base) × (new.bare ≡ (old.bare || is_bare_line line))
 
--- RefusesRest holds if `text` is `error 2 unfinished`, the output for bytes without a line feed, and `bare` stays.
-abbrev pub RefusesRest : Relation Rounder
-RefusesRest old rest text is_error new = IsRefusalLine Unfinished text × (is_error ≡ true) × (new.bare ≡ old.bare)
+-- RefusesLastBytes holds if `text` is `error 2 unfinished`, the output for bytes without a line feed, and `bare` stays.
+abbrev pub RefusesLastBytes : Relation Rounder
+RefusesLastBytes old rest text is_error new = IsRefusalLine Unfinished text × (is_error ≡ true) × (new.bare ≡ old.bare)

@@ -2,7 +2,7 @@
 ghost use Rattle.std.specs.Prelude.{false};
 ghost use Rattle.cc_io.specs.Devices.{AreReady};
 ghost use Rattle.cli_words.specs.RoundList.{RoundsList};
-ghost use Rattle.cli_words.specs.Rounder.{AnswersLength, RefusesRest};
+ghost use Rattle.cli_words.specs.Rounder.{AnswersLength, RefusesLastBytes};
 
 use crate::bare_digits::is_bare_line;
 use crate::list_line::read_listed;
@@ -28,7 +28,7 @@ pub(crate) struct Rounder {
 impl Answerer<ROOM> for Rounder {
     ghost Answered = { AnswersLength };
 
-    ghost Ended = { RefusesRest };
+    ghost Ended = { RefusesLastBytes };
 
     ghost MOST = { 264 };
 

@@ -3,7 +3,7 @@ use Rattle.std.specs.Prelude.{IsTrue}
 use Rattle.cc_word.specs.Word.{word_of}
 use Rattle.cc_cap.specs.Capability.{Capability}
 use Rattle.cc_ffi.specs.Numbers.{number_in}
-use Rattle.cc_ffi.specs.Search.{IsTaggable}
+use Rattle.cc_ffi.specs.Search.{IsWordFor}
 use Rattle.cc_ffi.proofs.SearchLemmas.{wanted_if, wanted_perms}
 use Rattle.cc_ffi.proofs.search.is_wanted.Goals as goal
 
@@ -22,13 +22,13 @@ returns-then-not-is_taggable c = (
   λ w.
       sym c.if-not-is_taggable.true
       ∙ c.is_taggable.ensures.1
-      (subst (λ (word : ℕ). (cap : Capability) × IsTaggable c.args.query.now cap word) (sym c.number-word.ensures) (w.cap, w.taggable)),
+      (subst (λ (word : ℕ). (cap : Capability) × IsWordFor c.args.query.now cap word) (sym c.number-word.ensures) (w.cap, w.taggable)),
 )
 
 pub returns : goal.returns
 returns c =
     wanted_if c.args.query.now (number_in c.args.word) c.unpack-fields.result (c.unpack-fields.ensures.word ∙ c.number-word.ensures)
     (c.has_wanted_perms.ensures.0 c.if-not-has_wanted_perms.false)
-    (subst (λ (word : ℕ). (cap : Capability) × IsTaggable c.args.query.now cap word) c.number-word.ensures
+    (subst (λ (word : ℕ). (cap : Capability) × IsWordFor c.args.query.now cap word) c.number-word.ensures
     (c.is_taggable.ensures.0 c.if-not-is_taggable.false))
     (IsTrue c.contains_wanted.result) c.contains_wanted.ensures

@@ -2,7 +2,7 @@ use Rattle.std.proofs.Common.{◌≡◌, ◌∙◌, ℕ, List, ◌∷◌, Result
 use Rattle.cc_word.specs.declared.refusal.Refusal.{Refusal}
 use Rattle.cc_values.specs.Values.{both, words_of}
 use Rattle.cc_placer.specs.declared.event.Event.TheVariants as event
-use Rattle.cc_formats.specs.Trace.{alignment_in, allocation_in, pair_in, with_values}
+use Rattle.cc_formats.specs.Trace.{alignment_in, allocation_in, pair_in, with_trace_values}
 use Rattle.cc_formats.proofs.PowerLemmas.{aligned_second}
 use Rattle.cc_formats.proofs.TraceLemmas.{allocation_then}
 use Rattle.cc_formats.proofs.trace.read_allocation.Goals as goal
@@ -17,7 +17,7 @@ returns-in-Err-clause-value c =
     let is : Err c.in-Err.refusal ≡ both (pair_in id size) (alignment_in align) =
     sym c.in-Err.is ∙ c.both.ensures ∙ ap (λ (r : Result (ℕ × ℕ) Refusal). both r c.read_alignment.result) c.read_pair-in-Some-split_at_space.ensures
     ∙ ap (both (pair_in id size)) c.read_alignment.ensures.value in
-    ap (with_values (λ all. event.Allocate all.0.0 all.0.1 all.1)) is
+    ap (with_trace_values (λ all. event.Allocate all.0.0 all.0.1 all.1)) is
     ∙ sym (ap allocation_in whole ∙ allocation_then id size align)
 
 pub returns-in-Ok-clause-aligned : goal.returns-in-Ok-clause-aligned

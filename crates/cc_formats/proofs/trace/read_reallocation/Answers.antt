@@ -2,7 +2,7 @@ use Rattle.std.proofs.Common.{◌≡◌, ◌∙◌, ℕ, List, ◌∷◌, Result
 use Rattle.cc_word.specs.declared.refusal.Refusal.{Refusal}
 use Rattle.cc_values.specs.Values.{address_in, both, words_of}
 use Rattle.cc_placer.specs.declared.event.Event.TheVariants as event
-use Rattle.cc_formats.specs.Trace.{pair_in, reallocation_in, with_values}
+use Rattle.cc_formats.specs.Trace.{pair_in, reallocation_in, with_trace_values}
 use Rattle.cc_formats.proofs.TraceLemmas.{reallocation_then}
 use Rattle.cc_formats.proofs.trace.read_reallocation.Goals as goal
 
@@ -16,5 +16,5 @@ returns-in-Err-clause-value c =
     let is : Err c.in-Err.refusal ≡ both (pair_in old new) (address_in size) =
     sym c.in-Err.is ∙ c.both.ensures ∙ ap (λ (r : Result (ℕ × ℕ) Refusal). both r c.read_address.result) c.read_pair.ensures
     ∙ ap (both (pair_in old new)) c.read_address.ensures in
-    ap (with_values (λ all. event.Reallocate all.0.0 all.0.1 all.1)) is
+    ap (with_trace_values (λ all. event.Reallocate all.0.0 all.0.1 all.1)) is
     ∙ sym (ap reallocation_in whole ∙ reallocation_then old new size)

@@ -1,7 +1,7 @@
 use Rattle.std.proofs.Common.{◌≡◌, ◌∙◌, List, ◌∷◌, ◌++◌, ap, ap₂, arith, length, length-append, sym, ℕ}
 use Rattle.cc_replay.specs.Group.{more_policies, policy_rows}
 use Rattle.cc_replay.specs.Replay.{ReplayState}
-use Rattle.cc_replay.specs.Rows.{between_rows, row_text, rows_of}
+use Rattle.cc_replay.specs.Rows.{between_rows, row_text, table_rows}
 use Rattle.cc_replay.proofs.RowLemmas.{headed}
 use Rattle.cc_replay.proofs.group.push_replays.Goals as goal
 
@@ -11,7 +11,7 @@ rows-preserved g c =
     let first = c.in-Some.first.now in
     let after = c.in-Some.after.now in
     let rest : c.rows.rest.now ≡ first ∷ after = c.in-Some.ensures.cases.0 in
-    let rows : rows_of c.as_slice.result.now ≡ policy_rows first = ap rows_of c.as_slice.ensures.value ∙ c.rows_with_policy-rows.ensures.value in
+    let rows : table_rows c.as_slice.result.now ≡ policy_rows first = ap table_rows c.as_slice.ensures.value ∙ c.rows_with_policy-rows.ensures.value in
     record {
       text = ap₂ (λ (page before : List ℕ). page ++ more_policies format before after)
           (c.push_row.ensures.value ∙ ap₂ (λ (page row : List ℕ). page ++ row) c.push.ensures (ap (row_text format) rows))

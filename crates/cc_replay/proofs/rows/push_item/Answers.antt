@@ -1,5 +1,5 @@
 use Rattle.std.proofs.Common.{◌≤◌, [], ◌∷◌, ap, arith, length, length-append, rules}
-use Rattle.cc_replay.specs.Rows.{item_text, key_text, member_text, value_text}
+use Rattle.cc_replay.specs.Rows.{item_text, json_key, member_text, value_text}
 use Rattle.cc_replay.proofs.RowLemmas.{joined}
 use Rattle.cc_replay.proofs.rows.push_item.Goals as goal
 
@@ -101,4 +101,4 @@ pub returns-in-Member-clause-value : goal.returns-in-Member-clause-value
 unfolding item_text
 returns-in-Member-clause-value g c =
     rw (c.in-Member.is, c.push_member.ensures.value, c.push-in-Member-2.ensures, c.push_key.ensures.value, c.push-in-Member.ensures)
-    (joined c.args.page.now (34 ∷ []) (key_text c.args.row.now.name.now) (34 ∷ 58 ∷ 32 ∷ []) (member_text c.args.row.now.value))
+    (joined c.args.page.now (34 ∷ []) (json_key c.args.row.now.name.now) (34 ∷ 58 ∷ 32 ∷ []) (member_text c.args.row.now.value))

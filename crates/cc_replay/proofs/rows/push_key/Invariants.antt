@@ -1,10 +1,10 @@
 use Rattle.std.proofs.Common.{◌≡◌, ◌+◌, ◌++◌, length}
-use Rattle.cc_replay.specs.Rows.{key_text}
+use Rattle.cc_replay.specs.Rows.{json_key}
 use Rattle.cc_replay.proofs.rows.push_key.Given as goal
 
 abbrev pub invariant-bytes : goal.invariant-bytes
 invariant-bytes g l = record {
-  text : l.page ++ key_text l.rest ≡ l.initial.page ++ key_text l.name;
+  text : l.page ++ json_key l.rest ≡ l.initial.page ++ json_key l.name;
   fits : length l.page + length l.rest ≡ length l.initial.page + length l.name;
 }
 

@@ -1,6 +1,6 @@
 use Rattle.std.proofs.Common.{[], ◌∷◌, ap, arith, length, length-append, rules}
 use Rattle.cc_replay.specs.declared.table.Part.TheVariants.{Member}
-use Rattle.cc_replay.specs.Rows.{items_text, rows_of}
+use Rattle.cc_replay.specs.Rows.{items_text, table_rows}
 use Rattle.cc_replay.proofs.RowLemmas.{bracketed}
 use Rattle.cc_replay.proofs.rows.push_row.Goals as goal
 
@@ -37,7 +37,7 @@ returns-in-Text-clause-fits g c =
 pub returns-in-Json-clause-value : goal.returns-in-Json-clause-value
 returns-in-Json-clause-value g c =
     rw (c.in-Json.is, c.push-in-Json-2.ensures, c.push_items-in-Json.ensures.value, c.push-in-Json.ensures)
-    (bracketed c.args.page.now (123 ∷ []) (items_text Member (rows_of c.args.row.now)) (125 ∷ []))
+    (bracketed c.args.page.now (123 ∷ []) (items_text Member (table_rows c.args.row.now)) (125 ∷ []))
 
 pub returns-in-Json-clause-fits : goal.returns-in-Json-clause-fits
 returns-in-Json-clause-fits g c =

@@ -2,7 +2,7 @@ use Rattle.std.proofs.Common.{◌∷◌, ◌∙◌, Option, IsNone, arith, refl,
 use Rattle.cc_bounds.specs.declared.span.Span.{Span}
 use Rattle.cc_bounds.specs.Span.{IsWithin}
 use Rattle.std.proofs.lemmas.List.Sorted.{IsPermutation-refl}
-use Rattle.cc_heap.specs.Memory.{held_spans}
+use Rattle.cc_heap.specs.Memory.{memory_spans}
 use Rattle.cc_heap.proofs.MemoryLemmas.{found_first}
 use Rattle.cc_heap.proofs.HeapLemmas.{fit, below_limit, held_length, kept_made, kept_replaced, live_object, memory_of, placed, puts_new, puts_over, small, unplaced, usage_made}
 use Rattle.cc_heap.proofs.StepLemmas.{makes, replaced}
@@ -38,8 +38,8 @@ pub hold_at-requires-clause-apart : goal.hold_at-requires-clause-apart
 hold_at-requires-clause-apart g c =
     let at = placed c.self.invariant c.args.align c.args.size (option_map (λ found. found.0) c.place.result) c.in-Some.span c.place.ensures
     (rw c.in-Some.is refl) c.requires.aligned c.requires.some (omega (arith, c.ranges.size.fits)) in (
-      held_spans (memory_of c.self.inside.objects.entries c.self.inside.quarantine.items),
-      c.self.invariant.held_is _ (IsPermutation-refl (held_spans (memory_of c.self.inside.objects.entries c.self.inside.quarantine.items))),
+      memory_spans (memory_of c.self.inside.objects.entries c.self.inside.quarantine.items),
+      c.self.invariant.held_is _ (IsPermutation-refl (memory_spans (memory_of c.self.inside.objects.entries c.self.inside.quarantine.items))),
       at.apart,
       below_limit _ c.self.inside.usage _ _ _ (g.P.Placer.holds c.self.inside.placer) c.self.invariant
           (omega (arith, c.if-len-self.false, c.len.ensures.len, c.len-2.ensures)),
@@ -95,7 +95,7 @@ invariant_of-self-in_default-before g c =
     c.self.inside.quarantine.items c.reserve.new.self.items c.self.inside.usage _ _ _ _ _ _ _
     (g.P.Placer.holds c.self.inside.placer) (g.P.Placer.holds c.hold_at.new.self) c.args.id
     (record { size = c.args.size; align = c.args.align; span = c.in-Some.span }) c.self.invariant at
-    (λ others adds. c.hold_at.ensures.held _ others (c.self.invariant.held_is _ (IsPermutation-refl (held_spans (memory_of c.self.inside.objects.entries c.self.inside.quarantine.items)))) at.apart
+    (λ others adds. c.hold_at.ensures.held _ others (c.self.invariant.held_is _ (IsPermutation-refl (memory_spans (memory_of c.self.inside.objects.entries c.self.inside.quarantine.items)))) at.apart
     (below_limit _ c.self.inside.usage _ _ _ (g.P.Placer.holds c.self.inside.placer) c.self.invariant
     (omega (arith, c.if-len-self.false, c.len.ensures.len, c.len-2.ensures))) adds)
     (omega (arith, c.if-len-self.false, c.len.ensures.len, c.len-2.ensures)) more c.in_ok-before.ensures.unique
@@ -165,7 +165,7 @@ invariant_of-self-2 g c =
     c.push_reserved.new.self.items c.self.inside.usage c.with_made-usage.result _ _ _ _ _ _ _
     (g.P.Placer.holds c.self.inside.placer) (g.P.Placer.holds c.hold_at.new.self) c.args.id
     (record { size = c.args.size; align = c.args.align; span = c.in-Some.span }) c.in-Some-before.before c.self.invariant at
-    (λ others adds. c.hold_at.ensures.held _ others (c.self.invariant.held_is _ (IsPermutation-refl (held_spans (memory_of c.self.inside.objects.entries c.self.inside.quarantine.items)))) at.apart
+    (λ others adds. c.hold_at.ensures.held _ others (c.self.invariant.held_is _ (IsPermutation-refl (memory_spans (memory_of c.self.inside.objects.entries c.self.inside.quarantine.items)))) at.apart
     (below_limit _ c.self.inside.usage _ _ _ (g.P.Placer.holds c.self.inside.placer) c.self.invariant
     (omega (arith, c.if-len-self.false, c.len.ensures.len, c.len-2.ensures))) adds)
     (omega (arith, c.if-len-self.false, c.len.ensures.len, c.len-2.ensures)) takes c.in_ok-before.ensures.unique

@@ -1,5 +1,5 @@
 use Rattle.std.proofs.Common.{◌≡◌, ◌+◌, length}
-use Rattle.cc_heap.specs.Memory.{IsSound}
+use Rattle.cc_heap.specs.Memory.{IsSoundMemory}
 use Rattle.cc_heap.proofs.heap.Heap.release_all.Given as goal
 
 -- so many spans fewer are quarantined, and the rest stays
@@ -11,5 +11,5 @@ invariant-loop-released g l = record {
     memory = record { live = l.fn.self.memory.live; quarantined = l.self.memory.quarantined };
     totals = l.fn.self.totals;
   };
-  sound : IsSound l.self.settings.align l.self.memory;
+  sound : IsSoundMemory l.self.settings.align l.self.memory;
 }

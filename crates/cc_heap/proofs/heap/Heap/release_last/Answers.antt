@@ -1,6 +1,6 @@
 use Rattle.std.proofs.Common.{arith}
 use Rattle.std.proofs.lemmas.List.Sorted.{IsPermutation-refl}
-use Rattle.cc_heap.specs.Memory.{held_spans}
+use Rattle.cc_heap.specs.Memory.{memory_spans}
 use Rattle.cc_heap.proofs.HeapLemmas.{kept_released, last_quarantined, memory_of, popped}
 use Rattle.cc_heap.proofs.heap.Heap.release_last.Goals as goal
 
@@ -13,8 +13,8 @@ give_back-requires g c =
     (g.P.Placer.holds c.self.inside.placer) c.unwrap-span.result c.self.invariant was in
     record {
       is_held = (
-        (held_spans (memory_of c.self.inside.objects.entries c.self.inside.quarantine.items)),
-        c.self.invariant.held_is _ (IsPermutation-refl (held_spans (memory_of c.self.inside.objects.entries c.self.inside.quarantine.items))),
+        (memory_spans (memory_of c.self.inside.objects.entries c.self.inside.quarantine.items)),
+        c.self.invariant.held_is _ (IsPermutation-refl (memory_spans (memory_of c.self.inside.objects.entries c.self.inside.quarantine.items))),
         last.is_held,
       );
     }
@@ -48,7 +48,7 @@ invariant_of-self g c =
     c.self.inside.quarantine.items c.pop.new.self.items c.self.inside.usage _ _ _ _ _ _ _
     (g.P.Placer.holds c.self.inside.placer) (g.P.Placer.holds c.give_back.new.self) c.unwrap-span.result c.self.invariant
     was (λ others removes. c.give_back.ensures.held _ others
-    (c.self.invariant.held_is _ (IsPermutation-refl (held_spans (memory_of c.self.inside.objects.entries c.self.inside.quarantine.items)))) last.is_held removes)
+    (c.self.invariant.held_is _ (IsPermutation-refl (memory_spans (memory_of c.self.inside.objects.entries c.self.inside.quarantine.items)))) last.is_held removes)
     (rw c.len.ensures at c.with_released-self-inside.ensures) c.pop.ensures.capacity
     c.give_back.ensures.limit c.give_back.ensures.pool
 

@@ -1,5 +1,5 @@
 use Rattle.std.proofs.Common.{take}
-use Rattle.cc_heap.specs.Memory.{IsSound}
+use Rattle.cc_heap.specs.Memory.{IsSoundMemory}
 use Rattle.cc_heap.specs.Run.{Runs}
 use Rattle.cc_heap.proofs.heap.Heap.run.Given as goal
 
@@ -7,5 +7,5 @@ use Rattle.cc_heap.proofs.heap.Heap.run.Given as goal
 abbrev pub invariant-loop-i : goal.invariant-loop-i
 invariant-loop-i g l = record {
   runs : Runs l.fn.self (take l.i l.events) l.self;
-  sound : IsSound l.self.settings.align l.self.memory;
+  sound : IsSoundMemory l.self.settings.align l.self.memory;
 }

@@ -1,6 +1,6 @@
 use Rattle.std.proofs.Common.{◌≤◌, length, arith, subst}
 use Rattle.cc_heap.specs.Heap.{Heap}
-use Rattle.cc_heap.specs.Memory.{held_spans}
+use Rattle.cc_heap.specs.Memory.{memory_spans}
 use Rattle.cc_heap.proofs.HeapLemmas.{few_held, small}
 use Rattle.cc_heap.proofs.heap.Heap.usage.Goals as goal
 
@@ -12,4 +12,4 @@ returns-clause-fits g c =
 pub returns-clause-at_most : goal.returns-clause-at_most
 returns-clause-at_most g c =
     let few = few_held _ c.self.inside.usage _ _ _ (g.P.Placer.holds c.self.inside.placer) c.self.invariant in
-    subst (λ (heap : Heap). length (held_spans heap.memory) ≤ heap.settings.limit) c.self.view_is few
+    subst (λ (heap : Heap). length (memory_spans heap.memory) ≤ heap.settings.limit) c.self.view_is few
