@@ -87,7 +87,7 @@ share_text Held = codes "%"
 share_text Live = codes "%:live"
 share_text High = codes "%:high"
 
--- The shortest string that names the policy.
+-- The string that names the policy, with a decimal number.
 abbrev pub policy_text : Policy → List ℕ
 policy_text Immediate = codes "none"
 policy_text Never = codes "never"

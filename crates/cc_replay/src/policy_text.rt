@@ -81,7 +81,7 @@ fn read_percent(number: &[u8], of: Share) -> Result<Policy, Refusal>
     }
 }
 
-/// Appends the shortest string that [`read_policy`] reads as a policy: numbers are decimal, and `:held` is omitted.
+/// Appends the string that [`read_policy`] reads as a policy: numbers are decimal, and `:held` is omitted.
 ///
 /// Requires: 46 bytes of the page are free.
 pub fn push_policy<const N: usize>(page: &mut Page<N>, policy: Policy)

@@ -292,7 +292,8 @@ first line of each kind:
   noroom, full                an object that could not be placed
   lost                        an event on such an object
 
-With --strict, nothing is read after the chunk of the first refused line.
+With --strict, each replay stops at its first refused line, and nothing is read after the chunk in
+which the last one stops.
 
 The exit status is 0, or 1 if a line is refused, 2 for an invalid command line, and 3 if the
 program ran out of memory, FILE cannot be opened, or its input or output failed.

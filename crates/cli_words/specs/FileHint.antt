@@ -29,7 +29,7 @@ is_file_hinted Lines start = ends_in_cr start
 -- The hint on a file that is decoded in this form.
 abbrev pub hint_text : InputForm → List ℕ
 hint_text (Bytes order) = codes "hint: this is an ELF file, and its segments need not begin at multiples of 16: readelf -lW prints the Offset of each, for --skip\n"
-hint_text Lines = codes "hint: line 1 ends in CR: end lines in LF alone, as dos2unix does\n"
+hint_text Lines = codes "hint: a line ends in CR: end lines in LF alone, as dos2unix does\n"
 
 -- The hint, or nothing if there is none.
 abbrev pub file_hint : InputForm → (start : List ℕ) → List ℕ

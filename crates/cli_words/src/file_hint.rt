@@ -21,7 +21,7 @@ fn has_cr_lf(start: &[u8], at: usize) -> bool
     start.len() >= at && start[at..].starts_with(b"\r\n")
 }
 
-/// Returns whether the first line of a file that begins with these bytes is as long as a word and CR, and ends in CR.
+/// Returns whether CR LF comes after the digits of a word, if a file begins with these bytes and with a word.
 fn ends_in_cr(start: &[u8]) -> bool
     ensures { result ≡ ends_in_cr start.now }
 {
@@ -47,7 +47,7 @@ fn hint_text(form: InputForm) -> &'static [u8]
             b"hint: this is an ELF file, and its segments need not begin at multiples of 16: \
               readelf -lW prints the Offset of each, for --skip\n"
         }
-        InputForm::Lines => b"hint: line 1 ends in CR: end lines in LF alone, as dos2unix does\n",
+        InputForm::Lines => b"hint: a line ends in CR: end lines in LF alone, as dos2unix does\n",
     }
 }
 
