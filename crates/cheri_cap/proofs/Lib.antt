@@ -2,3 +2,4 @@ mod OutcomeLemmas
 mod ExecutionLemmas
 mod HeadlineLemmas
 mod RefusedLemmas
+mod RefusalLemmas

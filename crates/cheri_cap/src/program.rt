@@ -1,5 +1,5 @@
 //! The execution of the program's command line: on given devices, and on those of the process.
-ghost use Rattle.std.specs.Prelude.{◌≡◌, ◌≢◌, ◌↔◌, IfErr, IfOk, MatchResult, OnErr, false, true, List, Option};
+ghost use Rattle.std.specs.Prelude.{◌≡◌, ◌≢◌, ◌↔◌, ◌⊎◌, IfErr, IfOk, MatchResult, OnErr, false, true, List, Option};
 ghost use Rattle.clap.specs.Walk.{texts};
 ghost use Rattle.clap.specs.Words.{App, FailsBy, Row, Text, kind_of, subcommand_of};
 ghost use Rattle.cli.specs.declared.outcome.Ending.TheVariants as ending;
@@ -7,8 +7,9 @@ ghost use Rattle.cli.specs.declared.outcome.Ending.{Ending as EndingSpec};
 ghost use Rattle.cli.specs.declared.invocation.Invocation.{Invocation as InvocationSpec};
 ghost use Rattle.cheri_cap.specs.Ending.{AnswersEveryScript, ExecutesCommand, failures_of};
 ghost use Rattle.cheri_cap.specs.Execution.{IsUnasked, effect_of};
+ghost use Rattle.cheri_cap.specs.Refusals.{EndsByArguments, FindsReplay, FindsTexts, has_good_texts};
 ghost use Rattle.cli.specs.Devices.{console_of};
-ghost use Rattle.cli.specs.Invocation.{IsInvocation, IsProgram, faults_of, is_taken};
+ghost use Rattle.cli.specs.Invocation.{IsInvocation, IsProgram, is_taken, kinds_in, value_fault};
 ghost use Rattle.cli.specs.Outcome.{EndsOn};
 
 use crate::execution::execute;
@@ -87,8 +88,9 @@ fn answer_on_process<R: AllocGlobal + Files + Input + Print + Eprint>(
     words: &[&str],
     reason: &Reason,
 ) -> Ending
-    ensures refused { result ≡ ending.Refused → (app : App) × IsProgram app × (is_taken app (texts words.now) ≡ false) }
-    ensures ends { (app : App) × IsProgram app × EndsOn (faults_of app (texts words.now)) result }
+    ensures refused { result ≡ ending.Refused → (app : App) × IsProgram app
+        × ((is_taken app (texts words.now) ≡ false) ⊎ FindsTexts false (subcommand_of app (texts words.now))) }
+    ensures ends { EndsByArguments (texts words.now) (λ kinds. EndsOn kinds result) }
 {
     let mut inputs = ProcessInputs::new(
         rt,
@@ -134,8 +136,8 @@ fn output_of<'a, R: AllocGlobal + Print>(
 /// Nothing but the devices is used.
 ///
 /// Requires: no device has failed.
-/// Errors: clap does not accept the arguments, help or the version is requested, or memory ran out before the command
-/// was known. Nothing is read or written then.
+/// Errors: clap does not accept the arguments, a text of `replay` is refused, help or the version is requested, or
+/// memory ran out before the command was known. Nothing is read or written then.
 pub fn answer_words<M: RunMemory + TraceMemory, I: Inputs, W: Sink, E: Sink>(
     memory: &mut M,
     terminals: Terminals,
@@ -158,7 +160,7 @@ pub fn answer_words<M: RunMemory + TraceMemory, I: Inputs, W: Sink, E: Sink>(
         (failures_of (I.has_refused inputs.new) (I.Opened.state source.new) (W.state sink.new) (M.has_failed memory.new)
         (I.last_asked inputs.new)) end) }
     // The main theorem of the program: from the arguments of `run` and `plan` to the bytes written
-    // and the end. If a command line that is accepted has no result, memory ran out.
+    // and the end. If a command line that clap accepts has no result, memory ran out, or the command is `replay`.
     ensures runs_script { (app : App) × IsProgram app × MatchResult result
         (λ end. (invocation : InvocationSpec) × IsInvocation (subcommand_of app (texts words.now)) invocation
         × AnswersEveryScript invocation
@@ -166,15 +168,17 @@ pub fn answer_words<M: RunMemory + TraceMemory, I: Inputs, W: Sink, E: Sink>(
         (E.state errors.old) (E.state errors.new))
         (failures_of (I.has_refused inputs.new) (I.Opened.state source.new) (W.state sink.new) (M.has_failed memory.new)
         (I.last_asked inputs.new)) end) (λ error. is_taken app (texts words.now) ≡ true
-        → M.has_failed memory.new ≡ true) }
+        → (M.has_failed memory.new ≡ true) ⊎ FindsReplay (subcommand_of app (texts words.now))) }
     ensures asked { IfOk result (λ end. (app : App) × IsProgram app × (invocation : InvocationSpec)
         × IsInvocation (subcommand_of app (texts words.now)) invocation
         × (IsUnasked (effect_of terminals invocation).input (I.last_asked inputs.new) → (inputs.new ≡ inputs.old)
         × (source.new ≡ source.old))) }
     ensures accepted { IfOk result (λ end. end ≢ ending.Refused) }
-    ensures kinds { (app : App) × IsProgram app × FailsBy (faults_of app (texts words.now)) result }
-    ensures refused { IfErr result (λ error. (app : App) × IsProgram app
-        × (is_taken app (texts words.now) ≡ true → kind_of error ≡ ErrorKind.OutOfMemory)) }
+    ensures good_texts { IfOk result (λ end. (app : App) × IsProgram app
+        × FindsTexts true (subcommand_of app (texts words.now))) }
+    ensures kinds { EndsByArguments (texts words.now) (λ kinds. FailsBy kinds result) }
+    ensures refused { IfErr result (λ error. (app : App) × IsProgram app × (is_taken app (texts words.now) ≡ true
+        → (kind_of error ≡ ErrorKind.OutOfMemory) ⊎ FindsTexts false (subcommand_of app (texts words.now)))) }
     ensures no_output { OnErr result (sink.new ≡ sink.old) }
     ensures no_report { OnErr result (errors.new ≡ errors.old) }
     ensures no_input { OnErr result (inputs.new ≡ inputs.old) }
@@ -182,11 +186,51 @@ pub fn answer_words<M: RunMemory + TraceMemory, I: Inputs, W: Sink, E: Sink>(
         ↔ (M.has_failed memory.new ≡ true)) }
     ensures unread { OnErr result (source.new ≡ source.old) }
 {
-    match memory.read_words(words) {
+    match read_invocation(memory, words) {
         Ok(invocation) => Ok(answer_invocation(
             memory, terminals, invocation, inputs, source, sink, errors,
         )),
         Err(error) => Err(error),
+    }
+}
+
+/// Reads the arguments as a command whose texts are accepted.
+fn read_invocation<'a, M: TraceMemory>(
+    memory: &mut M,
+    words: &'a [&'a str],
+) -> Result<Invocation<'a>, Error>
+    ensures read { IfOk result (λ invocation. (app : App) × IsProgram app
+        × IsInvocation (subcommand_of app (texts words.now)) invocation × (has_good_texts invocation ≡ true)) }
+    ensures kinds { EndsByArguments (texts words.now) (λ kinds. FailsBy kinds result) }
+    ensures refused { IfErr result (λ error. (app : App) × IsProgram app × (is_taken app (texts words.now) ≡ true
+        → (kind_of error ≡ ErrorKind.OutOfMemory) ⊎ FindsTexts false (subcommand_of app (texts words.now)))) }
+    ensures fails { MatchResult result (λ invocation. M.has_failed memory.new ≡ false)
+        (λ error. (kind_of error ≡ ErrorKind.OutOfMemory) ↔ (M.has_failed memory.new ≡ true)) }
+{
+    match memory.read_words(words) {
+        Ok(invocation) => match check_invocation(memory, invocation) {
+            Ok(()) => Ok(invocation),
+            Err(error) => Err(error),
+        },
+        Err(error) => Err(error),
+    }
+}
+
+/// Checks the texts of `replay`.
+fn check_invocation<M: TraceMemory>(memory: &mut M, invocation: Invocation<'_>) -> Result<(), Error>
+    requires { M.has_failed memory.old ≡ false }
+    ensures kinds { FailsBy (kinds_in (value_fault (has_good_texts invocation.entry))) result }
+    ensures fails { MatchResult result (λ checked. M.has_failed memory.new ≡ false)
+        (λ error. (kind_of error ≡ ErrorKind.OutOfMemory) ↔ (M.has_failed memory.new ≡ true)) }
+{
+    match invocation {
+        Invocation::Replay {
+            align,
+            strict,
+            texts,
+            ..
+        } => memory.check_texts(align, strict, texts),
+        _ => Ok(()),
     }
 }
 

@@ -3,6 +3,7 @@
 
 mod charting;
 mod memory;
+mod mistakes;
 mod replay_texts;
 mod replaying;
 mod scripting;

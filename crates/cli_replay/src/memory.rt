@@ -1,5 +1,7 @@
 //! The memory of a trace that is replayed.
-ghost use Rattle.std.specs.Prelude.{◌≡◌, ◌≢◌, ◌≤◌, ◌↔◌, Err, IfOk, IsErr, OnErr, OnOk, false, length, true};
+ghost use Rattle.std.specs.Prelude.{◌≡◌, ◌≢◌, ◌≤◌, ◌↔◌, Err, IfOk, IsErr, MatchResult, OnErr, OnOk, false, is_ok};
+ghost use Rattle.std.specs.Prelude.{length, true};
+ghost use Rattle.clap.specs.Words.{FailsBy, kind_of};
 ghost use Rattle.cc_formats.specs.declared.reading.Progress.TheVariants.{OutOfMemory};
 ghost use Rattle.cc_formats.specs.Reading.{is_over};
 ghost use Rattle.cc_heap.specs.Lost.{empty_run};
@@ -7,20 +9,26 @@ ghost use Rattle.cc_io.specs.Devices.{IsOutcome};
 ghost use Rattle.cc_replay.specs.Replay.{begun};
 ghost use Rattle.cc_replay.specs.Group.{any_ran_out, are_over, begun_group};
 ghost use Rattle.cc_replay.specs.Script.{script_begun};
+ghost use Rattle.cli.specs.Invocation.{kinds_in, value_fault};
 ghost use Rattle.cli_replay.specs.Charting.{TakesLines, begun_chart};
+ghost use Rattle.cli_replay.specs.ReplayTexts.{replay_in};
 ghost use Rattle.cli_replay.specs.Replaying.{Replays};
 ghost use Rattle.cli_replay.specs.Scripting.{Writes};
 ghost use Rattle.cli_replay.specs.Settings.{IsForHeap, IsForScript};
 ghost use Rattle.cli_replay.specs.Sweeping.{GroupTakes};
 
 use crate::charting::{Charting, take_trace};
+use crate::mistakes::check_texts;
 use crate::sweeping::take_trace_by_group;
+use cc_bounds::Align;
 use cc_gaps::GapPlacer;
 use cc_io::{IoError, Sink, Source, Summary};
 use cc_replay::{
     Policy, Progress, Reading, Replay, ReplayGroup, Script, Settings, replay_trace, script_trace,
 };
-use cli::{GlobalMemory, Memory};
+use clap::Error;
+use clap::error::ErrorKind;
+use cli::{GlobalMemory, Memory, ReplayTexts};
 use std::alloc::AllocError;
 
 /// The memory for the heap of a trace, which grows while lines are taken.
@@ -30,6 +38,20 @@ use std::alloc::AllocError;
 /// Each function that takes a trace requires that neither the source nor the sink has failed, and that lines are
 /// taken. Its errors are `Read` if and only if the source failed, and `Write` if and only if the sink failed.
 pub trait TraceMemory: Memory {
+    /// Checks the texts of `replay`, before its trace is read.
+    ///
+    /// Errors: `ValueValidation` if a text is refused, with a message that names the option and its forms; an
+    /// allocation fails.
+    fn check_texts(
+        &mut self,
+        align: Align,
+        strict: bool,
+        texts: ReplayTexts<'_>,
+    ) -> Result<(), Error>
+        ensures kinds { FailsBy (kinds_in (value_fault (is_ok (replay_in align strict texts.entry)))) result }
+        ensures fails { MatchResult result (λ checked. Self.has_failed self.new ≡ false)
+            (λ error. (kind_of error ≡ ErrorKind.OutOfMemory) ↔ (Self.has_failed self.new ≡ true)) };
+
     /// Begins a replay with a heap that holds nothing, before the first line of a trace.
     ///
     /// Requires: the limit is from 1 to 2^24, and the pool in the address space.
@@ -147,6 +169,20 @@ pub trait TraceMemory: Memory {
 }
 
 impl TraceMemory for GlobalMemory {
+    fn check_texts(
+        &mut self,
+        align: Align,
+        strict: bool,
+        texts: ReplayTexts<'_>,
+    ) -> Result<(), Error> {
+        let checked = check_texts(self.alloc, align, strict, texts);
+        self.has_failed = match &checked {
+            Ok(()) => false,
+            Err(error) => matches!(error.kind(), ErrorKind::OutOfMemory),
+        };
+        checked
+    }
+
     fn begin_replay(
         &mut self,
         settings: Settings,

@@ -128,7 +128,10 @@ pub(crate) fn replay_of<'a>(
 }
 
 /// Returns the policies that `--sweep` names after the first.
-fn others_of(output: Option<ReplayOutput<'_>>, text: Option<&str>) -> Result<Policies, Refusal>
+pub(crate) fn others_of(
+    output: Option<ReplayOutput<'_>>,
+    text: Option<&str>,
+) -> Result<Policies, Refusal>
     ensures { result ≡ others_given output.entry text.entry }
 {
     let Some(text) = text else {
@@ -214,7 +217,7 @@ fn first_replay_of<'a>(
 }
 
 /// Returns the policy that `--sweep` names first, or 25 percent of the held bytes.
-fn policy_of(text: Option<&str>) -> Result<Policy, Refusal>
+pub(crate) fn policy_of(text: Option<&str>) -> Result<Policy, Refusal>
     ensures { result ≡ sweep_given text.entry }
 {
     match text {
@@ -237,7 +240,7 @@ fn first_name(text: &[u8]) -> &[u8]
 }
 
 /// Returns the number of quarantined bytes that `--min` gives, or 0.
-fn least_of(text: Option<&str>) -> Result<u64, Refusal>
+pub(crate) fn least_of(text: Option<&str>) -> Result<u64, Refusal>
     ensures { result ≡ least_in text.entry }
 {
     match text {
@@ -247,7 +250,9 @@ fn least_of(text: Option<&str>) -> Result<u64, Refusal>
 }
 
 /// Returns the output, and the number of events from one sample of a series to the next, or 0 without a series.
-fn output_of<'a>(output: Option<ReplayOutput<'a>>) -> Result<(ReplayOutput<'a>, u64), Refusal>
+pub(crate) fn output_of<'a>(
+    output: Option<ReplayOutput<'a>>,
+) -> Result<(ReplayOutput<'a>, u64), Refusal>
     ensures { result ≡ output_in output.entry }
 {
     match output {
@@ -262,7 +267,7 @@ fn output_of<'a>(output: Option<ReplayOutput<'a>>) -> Result<(ReplayOutput<'a>, 
 }
 
 /// Returns the format of the trace that `--format` names, or the crate's own.
-fn format_of(text: Option<&str>) -> Result<TraceFormat, Refusal>
+pub(crate) fn format_of(text: Option<&str>) -> Result<TraceFormat, Refusal>
     ensures { result ≡ format_in text.entry }
 {
     match text {
@@ -290,7 +295,10 @@ fn read_format(name: &[u8]) -> Result<TraceFormat, Refusal>
 
 /// Returns the effect of a reallocation that `--realloc` names, or that it moves the object. `--script` excludes
 /// `keep`.
-fn realloc_of(output: Option<ReplayOutput<'_>>, text: Option<&str>) -> Result<Reallocation, Refusal>
+pub(crate) fn realloc_of(
+    output: Option<ReplayOutput<'_>>,
+    text: Option<&str>,
+) -> Result<Reallocation, Refusal>
     ensures value { result ≡ realloc_given output.entry text.entry }
     ensures moves { output.entry ≡ Some Script → IfOk result (λ realloc. realloc ≡ Move) }
 {
@@ -328,7 +336,7 @@ fn read_realloc(name: &[u8]) -> Result<Reallocation, Refusal>
 }
 
 /// Returns the pool that `--pool` gives, or all bytes at or above 2^44.
-fn pool_of(text: Option<&str>) -> Result<Span, Refusal>
+pub(crate) fn pool_of(text: Option<&str>) -> Result<Span, Refusal>
     ensures value { result ≡ span_given text.entry }
     ensures pool { IfOk result IsSpan }
 {

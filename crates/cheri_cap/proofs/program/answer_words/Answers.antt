@@ -3,6 +3,7 @@ use Rattle.clap.specs.Words.{subcommand_of}
 use Rattle.cli.specs.Devices.{Console, console_of}
 use Rattle.cheri_cap.specs.Ending.{Failures, failures_of}
 use Rattle.cheri_cap.proofs.HeadlineLemmas.{runs_script}
+use Rattle.cheri_cap.proofs.RefusalLemmas.{either_gives, only_replay}
 use Rattle.cheri_cap.proofs.program.answer_words.Goals as goal
 
 pub answer_invocation-requires : goal.answer_invocation-requires
@@ -33,9 +34,14 @@ returns-in-Ok-clause-runs_script g c =
 pub returns-in-Err-clause-runs_script : goal.returns-in-Err-clause-runs_script
 returns-in-Err-clause-runs_script g c =
     let told = c.in-Err.ensures.refused in
-    (told.0, told.1, λ taken. c.in-Err.ensures.fails.0 (told.2 taken))
+    (told.0, told.1, λ taken. either_gives c.in-Err.ensures.fails.0 (only_replay (subcommand_of told.0 (texts c.args.words.now))) (told.2 taken))
 
 pub returns-in-Ok-clause-asked : goal.returns-in-Ok-clause-asked
 returns-in-Ok-clause-asked g c =
     let told = c.in-Ok.ensures.read in
     (told.0, told.1, c.in-Ok.invocation, told.2, c.answer_invocation.ensures.asked)
+
+pub returns-in-Ok-clause-good_texts : goal.returns-in-Ok-clause-good_texts
+returns-in-Ok-clause-good_texts g c =
+    let told = c.in-Ok.ensures.read in
+    (told.0, told.1, (c.in-Ok.invocation, told.2, told.3))
