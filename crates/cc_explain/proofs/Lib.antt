@@ -1,3 +1,4 @@
+pub mod CorrectionLemmas
 pub mod StepLemmas
 mod RequestLemmas
 mod TextLemmas

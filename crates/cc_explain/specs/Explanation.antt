@@ -1,5 +1,5 @@
 -- The explanation of a word, and the output of `explain` for a string.
-use Rattle.std.specs.Prelude.{◌≡◌, ℕ, ◌+◌, ◌-◌, ◌*◌, ◌/◌, ◌%◌, ◌^◌, List, ◌++◌, Option, None, Some, MatchOption, codes, nat_le, if◌then◌else◌}
+use Rattle.std.specs.Prelude.{◌≡◌, ℕ, Bool, ◌+◌, ◌-◌, ◌*◌, ◌/◌, ◌%◌, ◌^◌, List, ◌++◌, Option, None, Some, MatchOption, codes, nat_le, if◌then◌else◌}
 use Rattle.cc_word.specs.Word.{word_of, bit_of}
 use Rattle.cc_word.specs.declared.fields.Fields.{Fields}
 use Rattle.cc_bounds.specs.declared.span.Span.{Span}
@@ -15,7 +15,7 @@ use Rattle.cc_io.specs.Text.{with_line_feed}
 use Rattle.cc_io.specs.Numbered.{line_feed, line_with_decimal, line_with_hexadecimal, with_decimal, with_digits, with_hexadecimal}
 use Rattle.cc_io.specs.CommandOutput.{AnswersTyped}
 use Rattle.cc_explain.specs.Picture.{IsPictureRow}
-use Rattle.cc_explain.specs.Steps.{AreSteps}
+use Rattle.cc_explain.specs.Steps.{AreSteps, address_section, carries, implied_bits, is_high, upper_bits}
 use Rattle.cc_explain.specs.declared.picture.Rows.{Rows}
 use Rattle.cc_explain.specs.declared.steps.Steps.{Steps}
 
@@ -77,6 +77,23 @@ top_mantissa_text fields steps =
     with_hexadecimal (codes "T         ") steps.t ++ codes ", the T" ++ stored_text fields
     ++ line_with_decimal (codes ", and above it ") (steps.t / 2 ^ 12) (codes " as the 2 implied bits")
 
+-- The sign between two numbers, of which the first is below the second or is not.
+abbrev pub comparison_text : (is_below : Bool) → List ℕ
+comparison_text is_below = if is_below then codes " < " else codes " >= "
+
+-- The line of the carry into the implied bits, and of the two numbers that it compares.
+abbrev pub carry_text : Steps → List ℕ
+carry_text steps =
+    with_decimal (codes "carry     ") (bit_of (carries steps)) ++ with_hexadecimal (codes ", as ") (steps.t % 2 ^ 12)
+    ++ line_with_hexadecimal (comparison_text (carries steps)) (steps.b % 2 ^ 12) (codes ", the low 12 bits of T and of B")
+
+-- The line of the two implied bits, as the sum that they are.
+abbrev pub implied_text : Fields → Steps → List ℕ
+implied_text fields steps =
+    with_decimal (codes "implied   ") (implied_bits fields steps) ++ with_decimal (codes ", as ") (steps.b / 2 ^ 12)
+    ++ with_decimal (codes " + ") (bit_of (carries steps))
+    ++ line_with_decimal (codes " + ") (bit_of fields.ie) (codes " modulo 4: the upper 2 bits of B, the carry and IE")
+
 -- The line of T - B modulo 2 ^ 14, and of the range that the implied bits put it in.
 abbrev pub length_text : Fields → Steps → List ℕ
 length_text fields steps =
@@ -90,7 +107,7 @@ length_text fields steps =
 abbrev pub mantissas_text : Fields → Steps → List ℕ
 mantissas_text fields steps =
     exponent_text fields steps ++ granule_text fields steps ++ base_mantissa_text fields steps
-    ++ top_mantissa_text fields steps ++ length_text fields steps
+    ++ top_mantissa_text fields steps ++ carry_text steps ++ implied_text fields steps ++ length_text fields steps
 
 -- ---- the window, and the places of the mantissas in it
 
@@ -102,7 +119,7 @@ section_text steps = line_with_hexadecimal (codes "section   ") (section_of step
 abbrev pub sections_text : Fields → Steps → List ℕ
 sections_text fields steps =
     with_decimal (codes "sections  ") (steps.b / 2 ^ 11) ++ with_decimal (codes " of B, ") (steps.t / 2 ^ 11)
-    ++ line_with_decimal (codes " of T, ") (fields.address / section_of steps.exponent % 8) (codes " of the address")
+    ++ line_with_decimal (codes " of T, ") (address_section fields steps) (codes " of the address")
 
 -- The first and the last address of the window, which has every address for exponents of at least
 -- 50.
@@ -117,6 +134,36 @@ abbrev pub window_text : Steps → List ℕ
 window_text steps =
     window_addresses_text steps
     ++ line_with_decimal (codes ": eight sections from ") steps.first_section (codes " on, one below that of B")
+
+-- The line of the upper bits of the address.
+abbrev pub upper_text : Fields → Steps → List ℕ
+upper_text fields steps =
+    line_with_hexadecimal (codes "upper     ") (upper_bits fields steps) (codes ", the bits of the address from bit E+14 up")
+
+-- The line that says which of B, T and the address are in high sections.
+abbrev pub high_text : Fields → Steps → List ℕ
+high_text fields steps =
+    with_decimal (codes "high      ") (bit_of (is_high steps (steps.b / 2 ^ 11)))
+    ++ with_decimal (codes " of B, ") (bit_of (is_high steps (steps.t / 2 ^ 11)))
+    ++ line_with_decimal (codes " of T, ") (bit_of (is_high steps (address_section fields steps))) (codes " of the address: 1 for a section below the window's first")
+
+-- The correction of the upper bits of the address for a mantissa: 1 more if the mantissa alone is
+-- high, and 1 less if the address alone is.
+abbrev pub correction_text : (of_mantissa of_address : Bool) → List ℕ
+correction_text of_mantissa of_address =
+    if of_mantissa then (if of_address then codes "0" else codes "+1")
+    else (if of_address then codes "-1" else codes "0")
+
+-- The line of the corrections for B and for T.
+abbrev pub corrected_text : Fields → Steps → List ℕ
+corrected_text fields steps =
+    codes "corrected " ++ correction_text (is_high steps (steps.b / 2 ^ 11)) (is_high steps (address_section fields steps))
+    ++ codes " for B, " ++ correction_text (is_high steps (steps.t / 2 ^ 11)) (is_high steps (address_section fields steps))
+    ++ with_line_feed (codes " for T: +1 if it alone is high, -1 if the address alone is")
+
+-- The lines of the upper bits, and of how those of B and T differ from them.
+abbrev pub corrections_text : Fields → Steps → List ℕ
+corrections_text fields steps = upper_text fields steps ++ high_text fields steps ++ corrected_text fields steps
 
 -- The lines of the base and of the top.
 abbrev pub bounds_lines : Span → List ℕ
@@ -141,7 +188,8 @@ canonical_text (Some OtherFields) bounds = other_fields_text bounds
 -- The lines of the window, of the bounds and of whether the word is canonical.
 abbrev pub window_lines_text : Fields → Steps → Span → Option Defect → List ℕ
 window_lines_text fields steps bounds defect =
-    section_text steps ++ sections_text fields steps ++ window_text steps ++ bounds_lines bounds ++ canonical_text defect bounds
+    section_text steps ++ sections_text fields steps ++ window_text steps ++ corrections_text fields steps
+    ++ bounds_lines bounds ++ canonical_text defect bounds
 
 -- ---- the picture
 

@@ -1,5 +1,5 @@
 //! The lines of an explanation: the fields of a word, and the steps of decoding them.
-ghost use Rattle.std.specs.Prelude.{◌≡◌, ◌+◌, ◌≤◌, ◌<◌, ◌^◌, ◌++◌, [], Some, codes, length};
+ghost use Rattle.std.specs.Prelude.{◌≡◌, ◌+◌, ◌≤◌, ◌<◌, ◌/◌, ◌^◌, ◌++◌, [], Some, codes, length};
 ghost use Rattle.cc_bounds.specs.Granule.{IsSound};
 ghost use Rattle.cc_bounds.specs.Span.{IsSpan};
 ghost use Rattle.cc_cap.specs.declared.canonical.Defect.TheVariants.{OtherFields};
@@ -10,10 +10,17 @@ ghost use Rattle.cc_explain.specs.Explanation.{
   bounds_line_text,
   bounds_lines,
   canonical_text,
+  carry_text,
+  comparison_text,
+  corrected_text,
+  correction_text,
+  corrections_text,
   other_fields_text,
   exponent_text,
   fields_text,
   granule_text,
+  high_text,
+  implied_text,
   length_text,
   mantissas_text,
   rights_text,
@@ -21,11 +28,13 @@ ghost use Rattle.cc_explain.specs.Explanation.{
   sections_text,
   stored_text,
   top_mantissa_text,
+  upper_text,
   window_addresses_text,
   window_lines_text,
   window_text,
   word_text,
 };
+ghost use Rattle.cc_explain.specs.Steps.{address_section, carries, is_high};
 
 use crate::steps::{Steps, section, unit};
 use cc_bounds::{Set, Span};
@@ -107,20 +116,22 @@ fn bit(is_set: bool) -> u128
 
 /// Appends the lines of the exponent and of the mantissas.
 ///
-/// Requires: `steps.exponent <= 52`; `steps.b < 2^14`; `steps.t < 2^14`; 900 bytes of `text` are
-/// free.
+/// Requires: `steps.exponent <= 52`; `steps.b < 2^14`; `steps.t < 2^14`; 1,200 bytes of `text`
+/// are free.
 pub fn push_mantissas(text: &mut Text, fields: &Fields, steps: &Steps)
     requires exponent { steps.now.exponent ≤ 52 }
     requires base_mantissa { steps.now.b < 2 ^ 14 }
     requires top_mantissa { steps.now.t < 2 ^ 14 }
-    requires room { length text.old + 900 ≤ MOST_TEXT }
+    requires room { length text.old + 1200 ≤ MOST_TEXT }
     ensures value { text.new ≡ text.old ++ mantissas_text fields.now steps.now }
-    ensures fits { length text.new ≤ length text.old + 900 }
+    ensures fits { length text.new ≤ length text.old + 1200 }
 {
     push_exponent(text, fields, steps);
     push_granule(text, fields, steps);
     push_base_mantissa(text, fields, steps);
     push_top_mantissa(text, fields, steps);
+    push_carry(text, steps);
+    push_implied(text, fields, steps);
     push_length(text, fields, steps);
 }
 
@@ -201,6 +212,59 @@ fn stored(fields: &Fields) -> &'static [u8]
     }
 }
 
+/// Appends the line of the carry into the implied bits, and of the two numbers that it compares.
+fn push_carry(text: &mut Text, steps: &Steps)
+    requires room { length text.old + 170 ≤ MOST_TEXT }
+    ensures value { text.new ≡ text.old ++ carry_text steps.now }
+    ensures fits { length text.new ≤ length text.old + 170 }
+{
+    let of_t = steps.t % 0x1000;
+    let of_b = steps.b % 0x1000;
+    push_decimal(text, b"carry     ", carry(steps));
+    push_hexadecimal(text, b", as ", u128::from(of_t));
+    end_with_hexadecimal(
+        text,
+        comparison(of_t < of_b),
+        u128::from(of_b),
+        b", the low 12 bits of T and of B",
+    );
+}
+
+/// Returns the carry into the implied bits.
+fn carry(steps: &Steps) -> u128
+    ensures value { result ≡ bit_of (carries steps.now) }
+    ensures fits { result ≤ 1 }
+{
+    bit(steps.t % 0x1000 < steps.b % 0x1000)
+}
+
+/// Appends the line of the two implied bits, as the sum that they are.
+fn push_implied(text: &mut Text, fields: &Fields, steps: &Steps)
+    requires room { length text.old + 250 ≤ MOST_TEXT }
+    ensures value { text.new ≡ text.old ++ implied_text fields.now steps.now }
+    ensures fits { length text.new ≤ length text.old + 250 }
+{
+    let upper = u128::from(steps.b / 0x1000);
+    let sum = upper + carry(steps) + bit(fields.ie);
+    push_decimal(text, b"implied   ", sum % 4);
+    push_decimal(text, b", as ", upper);
+    push_decimal(text, b" + ", carry(steps));
+    end_with_decimal(
+        text,
+        b" + ",
+        bit(fields.ie),
+        b" modulo 4: the upper 2 bits of B, the carry and IE",
+    );
+}
+
+/// Returns the sign between two numbers, of which the first is below the second or is not.
+fn comparison(is_below: bool) -> &'static [u8]
+    ensures value { result.now ≡ comparison_text is_below }
+    ensures fits { length result.now ≤ 4 }
+{
+    if is_below { b" < " } else { b" >= " }
+}
+
 /// Appends the line of T - B modulo 2^14, and of the range that the implied bits put it in.
 fn push_length(text: &mut Text, fields: &Fields, steps: &Steps)
     requires base_mantissa { steps.now.b < 2 ^ 14 }
@@ -224,7 +288,7 @@ fn push_length(text: &mut Text, fields: &Fields, steps: &Steps)
 /// Appends the lines of the window, of the bounds and of whether the word is canonical.
 ///
 /// Requires: `steps.exponent <= 52`; `steps.start < 2^67`; bounds with the defect `OtherFields` are a
-/// sound span; 900 bytes of `text` are free.
+/// sound span; 1,400 bytes of `text` are free.
 pub fn push_window_lines(
     text: &mut Text,
     fields: &Fields,
@@ -235,13 +299,14 @@ pub fn push_window_lines(
     requires exponent { steps.now.exponent ≤ 52 }
     requires start { steps.now.start < 2 ^ 67 }
     requires other_fields { defect ≡ Some OtherFields → IsSpan bounds.now × IsSound bounds.now }
-    requires room { length text.old + 900 ≤ MOST_TEXT }
+    requires room { length text.old + 1400 ≤ MOST_TEXT }
     ensures value { text.new ≡ text.old ++ window_lines_text fields.now steps.now bounds.now defect }
-    ensures fits { length text.new ≤ length text.old + 900 }
+    ensures fits { length text.new ≤ length text.old + 1400 }
 {
     push_section(text, steps);
     push_sections(text, fields, steps);
     push_window(text, steps);
+    push_corrections(text, fields, steps);
     push_bounds(text, bounds);
     push_canonical(text, defect, bounds);
 }
@@ -270,8 +335,20 @@ fn push_sections(text: &mut Text, fields: &Fields, steps: &Steps)
 {
     push_decimal(text, b"sections  ", u128::from(steps.b / 2048));
     push_decimal(text, b" of B, ", u128::from(steps.t / 2048));
-    let of_address = u128::from(fields.address) / section(steps.exponent) % 8;
-    end_with_decimal(text, b" of T, ", of_address, b" of the address");
+    end_with_decimal(
+        text,
+        b" of T, ",
+        address_section(fields, steps),
+        b" of the address",
+    );
+}
+
+/// Returns the section, from 0 to 7, of the address.
+fn address_section(fields: &Fields, steps: &Steps) -> u128
+    requires { steps.now.exponent ≤ 52 }
+    ensures { result ≡ address_section fields.now steps.now }
+{
+    u128::from(fields.address) / section(steps.exponent) % 8
 }
 
 /// Appends the line of the window.
@@ -307,6 +384,95 @@ fn push_window_addresses(text: &mut Text, steps: &Steps)
         let last = steps.start + (8 * section(steps.exponent) - 1);
         push_hexadecimal(text, b"window    ", steps.start % (1 << 64));
         push_hexadecimal(text, b" to ", last % (1 << 64));
+    }
+}
+
+/// Appends the lines of the upper bits of the address, and of how those of B and T differ from them.
+fn push_corrections(text: &mut Text, fields: &Fields, steps: &Steps)
+    requires exponent { steps.now.exponent ≤ 52 }
+    requires room { length text.old + 430 ≤ MOST_TEXT }
+    ensures value { text.new ≡ text.old ++ corrections_text fields.now steps.now }
+    ensures fits { length text.new ≤ length text.old + 430 }
+{
+    push_upper(text, fields, steps);
+    push_high(text, fields, steps);
+    push_corrected(text, fields, steps);
+}
+
+/// Appends the line of the bits of the address above the size of the window.
+fn push_upper(text: &mut Text, fields: &Fields, steps: &Steps)
+    requires exponent { steps.now.exponent ≤ 52 }
+    requires room { length text.old + 100 ≤ MOST_TEXT }
+    ensures value { text.new ≡ text.old ++ upper_text fields.now steps.now }
+    ensures fits { length text.new ≤ length text.old + 100 }
+{
+    let size = 8 * section(steps.exponent);
+    end_with_hexadecimal(
+        text,
+        b"upper     ",
+        u128::from(fields.address) / size,
+        b", the bits of the address from bit E+14 up",
+    );
+}
+
+/// Appends the line that says which of B, T and the address are in high sections.
+fn push_high(text: &mut Text, fields: &Fields, steps: &Steps)
+    requires exponent { steps.now.exponent ≤ 52 }
+    requires room { length text.old + 210 ≤ MOST_TEXT }
+    ensures value { text.new ≡ text.old ++ high_text fields.now steps.now }
+    ensures fits { length text.new ≤ length text.old + 210 }
+{
+    let of_address = is_high(steps, address_section(fields, steps));
+    push_decimal(text, b"high      ", bit(is_high_mantissa(steps, steps.b)));
+    push_decimal(text, b" of B, ", bit(is_high_mantissa(steps, steps.t)));
+    end_with_decimal(
+        text,
+        b" of T, ",
+        bit(of_address),
+        b" of the address: 1 for a section below the window's first",
+    );
+}
+
+/// Appends the line of the corrections for B and for T.
+fn push_corrected(text: &mut Text, fields: &Fields, steps: &Steps)
+    requires exponent { steps.now.exponent ≤ 52 }
+    requires room { length text.old + 110 ≤ MOST_TEXT }
+    ensures value { text.new ≡ text.old ++ corrected_text fields.now steps.now }
+    ensures fits { length text.new ≤ length text.old + 110 }
+{
+    let of_address = is_high(steps, address_section(fields, steps));
+    text.push(b"corrected ");
+    text.push(correction(is_high_mantissa(steps, steps.b), of_address));
+    text.push(b" for B, ");
+    text.push(correction(is_high_mantissa(steps, steps.t), of_address));
+    text.push(b" for T: +1 if it alone is high, -1 if the address alone is\n");
+}
+
+/// Returns whether a section is high: in the window, it is past a multiple of the window's size.
+fn is_high(steps: &Steps, section: u128) -> bool
+    ensures { result ≡ is_high steps.now section }
+{
+    section < u128::from(steps.first_section)
+}
+
+/// Returns whether the section of a mantissa is high.
+fn is_high_mantissa(steps: &Steps, mantissa: u16) -> bool
+    ensures { result ≡ is_high steps.now (mantissa / 2 ^ 11) }
+{
+    is_high(steps, u128::from(mantissa / 2048))
+}
+
+/// Returns the correction of the upper bits of the address for a mantissa, with its sign.
+fn correction(of_mantissa: bool, of_address: bool) -> &'static [u8]
+    ensures value { result.now ≡ correction_text of_mantissa of_address }
+    ensures fits { length result.now ≤ 2 }
+{
+    if of_mantissa {
+        if of_address { b"0" } else { b"+1" }
+    } else if of_address {
+        b"-1"
+    } else {
+        b"0"
     }
 }
 
