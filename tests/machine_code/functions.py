@@ -282,8 +282,8 @@ void cheri_cap_word_to_bytes_1(cheri_cap_u128 word, uint8_t *bytes) { cheri_cap_
 BOOL = (NUMBER, 1, 32)  # clang takes it that a bool has 32 bits, as an inlined one has
 TOP = z3.Concat(LENGTH_HIGH, OTHER_HIGH)
 BOUNDS = Buffer("BOUNDS", "const cheri_cap_bounds *", bytes_of(BASE, bits(TOP, 127, 64), bits(TOP, 63, 0)))
-IN_GRANTED = T, B, IE = z3.BitVec("granted_t", 16), z3.BitVec("granted_b", 16), z3.BitVec("granted_ie", 1)
-GRANTED = Buffer("GRANTED", "const cheri_cap_granted *", [*BOUNDS.held, *bytes_of(T, B), bv(0, 8), ext(IE, 8)])
+IN_GRANTED = T, B, EXPONENT, IE = [z3.BitVec(f"granted_{name}", size) for name, size in (("t", 16), ("b", 16), ("exponent", 8), ("ie", 1))]
+GRANTED = Buffer("GRANTED", "const cheri_cap_granted *", [*BOUNDS.held, *bytes_of(T, B, EXPONENT), ext(IE, 8)])
 
 
 def root():
