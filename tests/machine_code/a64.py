@@ -11,6 +11,7 @@ from model import bits, bv
 ALIASES = {"fp": "x29", "lr": "x30"}
 SHIFTS = {c.ARM64_SFT_LSL: lambda a, n: a << n, c.ARM64_SFT_LSR: z3.LShR, c.ARM64_SFT_ASR: lambda a, n: a >> n}
 # a vector of 128 bits, its lowest part, or a lane, and the bits of a lane by its letter
+GENERAL = re.compile(r"[xw]([12]?\d|30)")
 VIEW = re.compile(r"\{?([vqds])(\d+)(?:\.(16b|2d|d)(?:\[(\d)\])?)?\}?")
 BITS = {"b": 8, "s": 32, "d": 64, "q": 128}
 PACKED = {"and": "and", "orr": "or", "eor": "xor", "add": "add", "umax": "max", "umin": "min", "uqadd": "saturated", "cmhi": "above", "cmeq": "equal"}
@@ -37,7 +38,9 @@ def condition(code, flags):
 class A64(Lifter):
     disassembler = capstone.Cs(capstone.CS_ARCH_ARM64, capstone.CS_MODE_ARM)
     disassembler.detail = True
-    SAVED, STACK_POINTER = [f"x{n}" for n in range(19, 30)], "sp"
+    SAVED, STACK_POINTER = [f"x{n}" for n in range(19, 30)] + [f"v{n}" for n in range(8, 16)], "sp"
+    # the bits of a place in an instruction
+    PLACES = {"adrp": 0x60FFFFE0, "ldr": 0x003FFC00, "b": 0x03FFFFFF, "bl": 0x03FFFFFF, "tbz": 0x0007FFE0, "tbnz": 0x0007FFE0}
 
     # ---- operands
 
@@ -45,10 +48,16 @@ class A64(Lifter):
         if name in ("xzr", "wzr"):
             return bv(0, 64 if name == "xzr" else 32)
         name = ALIASES.get(name, name)
+        if name in ("sp", "wsp"):
+            return low(state.regs["sp"], 64 if name == "sp" else 32)
+        if not GENERAL.fullmatch(name):
+            raise Refused(f"a register {name}")
         return low(state.regs[f"x{name[1:]}"], 32) if name[0] == "w" else state.regs[name]
 
     def write(self, state, name, term):
         name = ALIASES.get(name, name)
+        if name not in ("sp", "xzr", "wzr") and not GENERAL.fullmatch(name):
+            raise Refused(f"a register {name} that is written")
         assert term.size() == (32 if name[0] == "w" else 64)
         if name not in ("xzr", "wzr"):
             state.regs[f"x{name[1:]}" if name[0] == "w" else name] = z3.simplify(wide(term, 64))
@@ -73,10 +82,12 @@ class A64(Lifter):
     def address(self, state, one, k):
         """Returns the address of operand k. The base may change by an offset before, or after, which then is the next operand."""
         memory, is_after = one.operands[k].mem, len(one.operands) > k + 1
-        if memory.index:
+        if one.operands[k].type != c.ARM64_OP_MEM or memory.index:
             raise Refused(f"an address of {one.mnemonic} {one.op_str}")
         name = one.reg_name(memory.base)
         base = self.read(state, name)
+        if name == "sp" and state.memory.place(base)[1] % 16:
+            raise Refused("a stack pointer that is not aligned")
         moved = base + bv(one.operands[k + 1].imm if is_after else memory.disp, 64)
         if one.writeback:
             self.write(state, name, moved)
@@ -124,7 +135,7 @@ class A64(Lifter):
             return operands[k].imm
 
         if name == "adrp":
-            put(bv(number(1), 64))
+            put(pointer(next(base for base, address in self.bases.items() if address == number(1))))
         elif name in ("mov", "movz", "movn", "mvn"):
             put(get(1) if name.startswith("mov") and name != "movn" else ~get(1))
         elif name == "movk":
@@ -193,7 +204,7 @@ class A64(Lifter):
         elif name in ("b", "bl") or name.startswith("b."):
             if name == "bl":
                 state.calls += (state.pc,)
-                self.write(state, "x30", bv(state.pc, 64))
+                self.write(state, "x30", self.after(state.pc))
             return z3.BoolVal(True) if name in ("b", "bl") else condition(one.cc, state.flags), number(0)
         elif name in ("cbz", "cbnz"):
             return get(0) == 0 if name == "cbz" else get(0) != 0, number(1)
@@ -269,18 +280,25 @@ class A64(Lifter):
         return found
 
     def placed(self, one, found):
-        """A constant is at a page, which a register got before, and an offset."""
+        """A constant is at a page, which a register got before, and an offset. Each different page is a base."""
         if one.mnemonic == "adrp":
-            return (one.mnemonic, one.op_str.split(",")[0]), range(0)
-        if not one.mnemonic.startswith("ld"):
+            base = next((it for it, address in self.bases.items() if address == one.operands[1].imm), f"PAGE{len(self.bases)}")
+            self.bases[base] = one.operands[1].imm
+            return base, range(0)
+        # a load with an offset of 12 bits, which changes no register but its own
+        if one.mnemonic != "ldr" or one.bytes[3] & 0x3B != 0x39:
             return None
         memory, address = one.operands[-1].mem, one.address - 4
         while address in found and found[address].operands and found[address].operands[0].reg != memory.base:
             address -= 4
-        if address not in found or found[address].mnemonic != "adrp" or memory.index or not one.mnemonic == "ldr":
+        if address not in found or found[address].mnemonic != "adrp":
             return None
-        place, size = found[address].operands[1].imm + memory.disp, BITS.get(one.op_str[0], 64 if one.op_str[0] == "x" else 32) // 8
-        return (one.mnemonic, one.op_str.split(",")[0], one.reg_name(memory.base)), range(place, place + size)
+        size = BITS.get(one.op_str[0], 64 if one.op_str[0] == "x" else 32) // 8
+        return self.placed(found[address], found)[0], range(memory.disp, memory.disp + size)
+
+    def without_place(self, one, raw):
+        place = self.PLACES.get(one.mnemonic, 0x00FFFFE0)
+        return (int.from_bytes(raw, "little") & ~place).to_bytes(4, "little")
 
     # ---- the ABI
 
@@ -289,7 +307,7 @@ class A64(Lifter):
         stacked, size = function.struct, function.in_memory
         regions = {"SP": (-STACK, 0, 0), "OUT": (0, size, size), "STRUCT": (0, 0, len(stacked))}
         held = {("STRUCT", k): byte for k, byte in enumerate(stacked)}
-        regs = {f"x{n}": pointer(f"x{n}!entry") for n in range(31)} | {"sp": pointer("SP")} | {f"v{n}": unknown(128, "v") for n in range(32)}
+        regs = {f"x{n}": pointer(f"x{n}!entry") for n in range(31)} | {"sp": pointer("SP")} | {f"v{n}": z3.BitVec(f"v{n}!entry", 128) for n in range(32)}
         given = [pointer("STRUCT")] * bool(stacked) + arguments
         regs |= {f"x{n}": term for n, term in enumerate(given)} | ({"x8": pointer("OUT")} if size else {})
         ends = self.called(entry, regs, {name: unknown(0, name) for name in "NZCV"}, regions, held, function)

@@ -114,15 +114,25 @@ class Memory:
 
     def __init__(self, lifter, regions, held=()):
         self.lifter, self.regions, self.bytes = lifter, regions, dict(held)
+        # the offset of the lowest byte of the stack that stays, before the instruction that is run
+        self.lowest = -lifter.RED_ZONE
 
     def copy(self):
-        return Memory(self.lifter, self.regions, self.bytes)
+        other = Memory(self.lifter, self.regions, self.bytes)
+        other.lowest = self.lowest
+        return other
+
+    def moved(self, stack):
+        """The stack pointer is another: of what is below it, nothing is known any more."""
+        region, offset = self.place(stack)
+        if region != "SP":
+            raise Refused("a stack pointer that is elsewhere")
+        self.lowest = offset - self.lifter.RED_ZONE
+        self.bytes = {it: byte for it, byte in self.bytes.items() if it[0] != "SP" or it[1] >= self.lowest}
 
     def place(self, address):
         address = z3.simplify(z3.substitute(address, *[(pointer(it) == 0, z3.BoolVal(False)) for it in self.regions]))
-        if z3.is_bv_value(address):
-            return None, address.as_long()
-        for name in self.regions:
+        for name in [*self.regions, *self.lifter.bases]:
             offset = z3.simplify(address - pointer(name))
             if z3.is_bv_value(offset):
                 return name, offset.as_signed_long()
@@ -130,11 +140,14 @@ class Memory:
 
     def load(self, address, size):
         region, start = self.place(address)
-        if region is None:
-            if self.lifter.constants.get(self.lifter.at) != range(start, start + size):
-                raise Refused(f"reads {start:#x}, which is not the constant of its text")
-            found = [bv(self.lifter.image.constant(it), 8) for it in range(start, start + size)]
+        constant = self.lifter.constants.get(self.lifter.at)
+        if constant or region in self.lifter.bases:
+            if constant != (region, range(start, start + size)):
+                raise Refused(f"reads {region}{start:+#x}, which is not the constant of its text")
+            found = [bv(it, 8) for it in self.lifter.held(*constant)]
         else:
+            if region == "SP" and start < self.lowest:
+                raise Refused("reads below the stack")
             first, _, end = self.regions[region]
             if not first <= start <= start + size <= end:
                 raise Refused(f"reads {size} bytes at {region}{start:+d}, which are not its own")
@@ -167,12 +180,15 @@ class State:
 class Lifter:
     """A subclass has step(state, instruction), which changes the state and returns None, or for a jump its condition and its target."""
 
-    SAVED = STACK_POINTER = disassembler = None
+    SAVED = STACK_POINTER = disassembler = None  # SAVED are the registers of which a function keeps the low 64 bits
     POPPED = 0  # the bytes that the return itself takes from the stack
+    RED_ZONE = 0  # the bytes below the stack pointer that stay
 
     def __init__(self, image):
         self.image, self.decoded = image, {}
-        # the places of the constants by the addresses of the instructions that read them, and of the instruction that is run
+        # The code may be loaded anywhere: a place in it is a variable, the base, and an offset. `bases` has the address of each in the file
+        self.bases = {}
+        # the constants, as their base and their offsets, by the addresses of the instructions that read them, and of the instruction that is run
         self.constants, self.at = {}, None
 
     def instruction(self, address):
@@ -205,24 +221,40 @@ class Lifter:
         return found
 
     def text(self, entry):
-        """Returns the code of a function without the places of its parts in the file: each instruction with the number of those that
-        can follow it, and the constants. For an instruction that reads or has the place of a constant, placed() has its text without it."""
+        """Returns the code of a function without the places of its parts in the file: the bytes of each instruction without the bits that
+        are such a place, the numbers of those that can follow it, and the base and the bytes of a constant. What is left out has no effect,
+        since run() refuses a base for anything but the address of a constant."""
         found = self.code(entry)
         number = {address: n for n, address in enumerate(found)}
         lines = []
         for address, one in found.items():
             jump, placed = self.target(one), self.placed(one, found)
-            text = bytes(one.bytes) if jump is None else (one.mnemonic, one.op_str.rpartition(",")[0], number[jump])
+            line = [number.get(address + one.size), number.get(jump)]
             if placed:
-                text, places = placed
-                text = text, places and places[0] % 16, bytes(map(self.image.constant, places))
-                self.constants[address] = places
-            lines.append((number.get(address + one.size), text))
+                base, offsets = placed
+                line += base, offsets and (self.bases[base] + offsets[0]) % 16, self.held(base, offsets)
+                if offsets:
+                    self.constants[address] = placed
+            raw = bytes(one.bytes)
+            lines.append((*line, raw if jump is None and not placed else self.without_place(one, raw)))
         return lines
 
+    def held(self, base, offsets):
+        """Returns the bytes of a constant."""
+        return bytes(self.image.constant(self.bases[base] + it) for it in offsets)
+
     def placed(self, one, found):
-        """Returns the text and the places, or None."""
+        """Returns the base that an instruction has, and the offsets of the constant that it reads there, or None."""
         raise NotImplementedError
+
+    def without_place(self, one, raw):
+        """Returns the bytes of an instruction without where it jumps to, or where its constant is."""
+        raise NotImplementedError
+
+    @staticmethod
+    def after(call):
+        """Returns the address to which a call returns."""
+        return pointer(f"{call:#x}!code")
 
     def run(self, state):
         """Returns the states in which the function has returned. Their paths exclude each other, and every input takes one."""
@@ -236,8 +268,10 @@ class Lifter:
                     raise Refused(f"a loop through {state.pc:#x}")
                 state.visited.add((state.calls, state.pc))
                 one = self.instruction(state.pc)
-                self.at, state.pc = one.address, one.address + one.size
+                self.at, state.pc, stack = one.address, one.address + one.size, state.regs[self.STACK_POINTER]
                 jump = self.step(state, one)
+                if not state.regs[self.STACK_POINTER].eq(stack):
+                    state.memory.moved(state.regs[self.STACK_POINTER])
                 if jump is None:
                     continue
                 condition, target = z3.simplify(jump[0]), jump[1]
@@ -277,14 +311,15 @@ class Lifter:
         """Returns to `place`: after the last call, or to the caller of the function, whose address is `caller`. Then the saved registers and
         the stack pointer must be as they were, which the ABI promises the caller."""
         place = z3.simplify(place)
-        if state.calls and place.eq(bv(state.calls[-1], 64)):
+        if state.calls and place.eq(self.after(state.calls[-1])):
             *calls, back = state.calls
             state.calls = tuple(calls)
             return z3.BoolVal(True), back
         if state.calls or not place.eq(pointer(caller)):
             raise Refused("returns to somewhere else")
         for name in self.SAVED:
-            if not z3.simplify(state.regs[name]).eq(pointer(f"{name}!entry")):
+            now, entry = (z3.simplify(low(it, 64)) for it in (state.regs[name], z3.BitVec(f"{name}!entry", state.regs[name].size())))
+            if not now.eq(entry):
                 raise Refused(f"does not restore {name}")
         if not z3.simplify(state.regs[self.STACK_POINTER] - self.POPPED).eq(pointer("SP")):
             raise Refused("does not restore the stack pointer")

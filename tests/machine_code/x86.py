@@ -17,7 +17,6 @@ for name in FULL[8:]:
     PARTS |= {f"{name}d": (name, 32, 0), f"{name}w": (name, 16, 0), f"{name}b": (name, 8, 0)}
 ARGUMENTS = "rdi rsi rdx rcx r8 r9".split()
 FLAGS = "CF ZF SF OF".split()
-RED_ZONE = 128
 # the other names of conditions, and the conditions that are the opposite of another
 SAME = {"c": "b", "nae": "b", "z": "e", "na": "be", "nge": "l", "ng": "le"}
 OPPOSITE = {"ae": "b", "nb": "b", "nc": "b", "ne": "e", "nz": "e", "a": "be", "nbe": "be", "ns": "s", "no": "o", "ge": "l", "nl": "l", "g": "le", "nle": "le"}
@@ -45,7 +44,11 @@ def condition(name, flags):
 class X86(Lifter):
     disassembler = capstone.Cs(capstone.CS_ARCH_X86, capstone.CS_MODE_64)
     disassembler.detail = True
-    SAVED, STACK_POINTER, POPPED = "rbx rbp r12 r13 r14 r15".split(), "rsp", 8
+    SAVED, STACK_POINTER, POPPED, RED_ZONE = "rbx rbp r12 r13 r14 r15".split(), "rsp", 8, 128
+
+    def __init__(self, image):
+        super().__init__(image)
+        self.bases = {"CODE": 0}
 
     # ---- operands
 
@@ -69,12 +72,12 @@ class X86(Lifter):
     def address(self, state, one, operand):
         memory = operand.mem
         names = [one.reg_name(it) for it in (memory.base, memory.index) if it]
-        if memory.segment or any(PARTS.get(it, (it, 64))[1] != 64 for it in names):
+        if memory.segment or any(PARTS.get(it, (it, 64 * (it == "rip")))[1] != 64 for it in names):
             raise Refused(f"an address of {one.mnemonic} {one.op_str}")
         total = bv(memory.disp, 64)
         if memory.base:
             name = one.reg_name(memory.base)
-            total += bv(one.address + one.size, 64) if name == "rip" else self.read(state, name)
+            total += pointer("CODE") + (one.address + one.size) if name == "rip" else self.read(state, name)
         return total + self.read(state, one.reg_name(memory.index)) * memory.scale if memory.index else total
 
     def get(self, state, one, k, size=None):
@@ -89,7 +92,7 @@ class X86(Lifter):
         operand = one.operands[k]
         if operand.type == c.X86_OP_REG:
             return self.write(state, one.reg_name(operand.reg), term)
-        state.memory.store(self.aligned(state, one, operand), term, operand.size, state.regs["rsp"] - RED_ZONE)
+        state.memory.store(self.aligned(state, one, operand), term, operand.size, state.regs["rsp"] - self.RED_ZONE)
 
     def aligned(self, state, one, operand):
         """Returns an address. One of 16 bytes must be aligned, except in the moves that say otherwise."""
@@ -97,16 +100,20 @@ class X86(Lifter):
         if operand.size == 16 and one.mnemonic not in ("movups", "movdqu", "movupd"):
             region, offset = state.memory.place(place)
             # at a call the stack pointer is 8 below a multiple of 16; nothing is known of the other pointers
-            if region not in (None, "SP") or (offset + 8 * (region == "SP")) % 16:
+            if region not in ("CODE", "SP") or (offset + 8 * (region == "SP")) % 16:
                 raise Refused("an access of 16 bytes that is not aligned")
         return place
 
     def placed(self, one, found):
         constant = next((it for it in one.operands if it.type == c.X86_OP_MEM and it.mem.base == c.X86_REG_RIP), None)
-        if constant is None:
+        if constant is None or one.mnemonic == "lea":
             return None
-        place, k = one.address + one.size + constant.mem.disp, one.disp_offset
-        return bytes(one.bytes[:k] + one.bytes[k + 4 :]), range(place, place + constant.size * (one.mnemonic != "lea"))
+        place = one.address + one.size + constant.mem.disp
+        return "CODE", range(place, place + constant.size)
+
+    def without_place(self, one, raw):
+        k, size = (one.imm_offset, one.imm_size) if self.target(one) is not None else (one.disp_offset, 4)
+        return raw[:k] + raw[k + size :]
 
     # ---- flags
 
@@ -172,6 +179,8 @@ class X86(Lifter):
         # an operand size of 16 bits is in the operands; the others are a lock or a repetition, except where they are of the instruction
         if {0xF0, 0xF2, 0xF3} & {*one.prefix} and not name.startswith(("mov", "bsr", "nop")):
             raise Refused(f"a prefix of {name}")
+        if 0x66 in one.prefix and name.startswith(("j", "call", "ret")):  # its size depends on the maker of the processor
+            raise Refused(f"a prefix of {name}")
         size = 8 * operands[0].size if operands else 0
         get, put = lambda k, size=None: self.get(state, one, k, size), lambda term: self.put(state, one, 0, term)
         is_vector = any(it.type == c.X86_OP_REG and one.reg_name(it.reg).startswith("xmm") for it in operands)
@@ -180,7 +189,7 @@ class X86(Lifter):
                 raise Refused("a computed jump")
             if name == "call":
                 state.calls += (state.pc,)
-                self.push(state, bv(state.pc, 64))
+                self.push(state, self.after(state.pc))
             return z3.BoolVal(True) if name in ("jmp", "call") else condition(name[1:], state.flags), self.target(one)
         if is_vector:
             self.vector(one, name, get, put, size)
@@ -190,7 +199,7 @@ class X86(Lifter):
             put(wide(get(1), size))
         elif name in ("movsx", "movsxd", "cdqe"):
             put(signed(get(1), size))
-        elif name == "lea":
+        elif name == "lea" and operands[1].mem.base != c.X86_REG_RIP:  # where the code is loaded is no data
             put(low(self.address(state, one, operands[1]), size))
         elif name in ("add", "adc", "sub", "sbb", "cmp"):
             carry = bit_of(state.flags["CF"]) if name in ("adc", "sbb") else bv(0, 1)
