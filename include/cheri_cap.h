@@ -8,7 +8,9 @@
  * The library libcheri_cap has the functions, static or shared. A checkout builds the
  * static one as crates/cc_ffi/out/libcc_ffi.a. Each function is proved to return what its contract
  * in crates/cc_ffi says, and the comments here say the same in words. The inline functions at the
- * end are plain C: they are tested, and proved as machine code (docs/PROVED.md, "Trusted").
+ * end are plain C and tested. Most are proved as machine code too (docs/PROVED.md, "Trusted"). Not
+ * proved are cheri_cap_refusal_name, those with names that end in an underscore, and an order of
+ * bytes that the compiler does not know.
  *
  * Version: CHERI_CAP_VERSION is the version of this header, and cheri_cap_version() returns that of
  * the library. They are equal if the two belong together. CHERI_CAP_RELEASE is the release that the

@@ -385,7 +385,7 @@ FUNCTIONS |= INLINE
 OTHERS = """decode_many is_canonical_many represents_many set_bounds_many round_length_many alignment_mask_many decode_memory is_canonical_memory
 represents_memory search_memory set_bounds_memory format""".split()
 
-# a pointer to a name, and the two that the file above has for each value of an argument
+# not proved either: a pointer to a name, and, for an argument that the compiler does not know, the two that the file above has for each value of it
 OTHER_INLINE = "refusal_name word_from_bytes word_to_bytes".split()
 
 
