@@ -84,12 +84,15 @@ class A64(Lifter):
         memory, is_after = one.operands[k].mem, len(one.operands) > k + 1
         if one.operands[k].type != c.ARM64_OP_MEM or memory.index:
             raise Refused(f"an address of {one.mnemonic} {one.op_str}")
-        name = one.reg_name(memory.base)
+        name = ALIASES.get(one.reg_name(memory.base), one.reg_name(memory.base))
         base = self.read(state, name)
         if name == "sp" and state.memory.place(base)[1] % 16:
             raise Refused("a stack pointer that is not aligned")
         moved = base + bv(one.operands[k + 1].imm if is_after else memory.disp, 64)
         if one.writeback:
+            others = [one.reg_name(it.reg) for it in one.operands[:k]]
+            if {f"{size}{name[1:]}" for size in "xw"} & {ALIASES.get(it, it) for it in others}:
+                raise Refused(f"the base of {one.mnemonic} {one.op_str} is in it twice")
             self.write(state, name, moved)
         return base if is_after else moved
 

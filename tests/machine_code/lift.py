@@ -136,7 +136,7 @@ class Memory:
             offset = z3.simplify(address - pointer(name))
             if z3.is_bv_value(offset):
                 return name, offset.as_signed_long()
-        raise Refused(f"an address that depends on the data: {address}")
+        raise Refused(f"an address of no region: {address}")
 
     def load(self, address, size):
         region, start = self.place(address)

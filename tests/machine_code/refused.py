@@ -43,19 +43,25 @@ WRONG = {
         # call 1f; bswap rdi; shr rcx, 32; xor rdi, rcx; mov rax, rdi; ret; 1: mov rcx, [rsp]; ret
         ("a return address as data", "swapped", "e80e000000480fcf48c1e9204831cf4889f8c3488b0c24c3", "WRONG: the result"),
         # mov rax, rdi; xor rax, [0x8000]; bswap rax; ret
-        ("a load at an address of the file", "swapped", "4889f84833042500800000480fc8c3", "an address that depends on the data"),
+        ("a load at an address of the file", "swapped", "4889f84833042500800000480fc8c3", "an address of no region"),
         # sub rsp, 256; mov [rsp], rdi; add rsp, 256; mov rax, [rsp-256]; bswap rax; ret
         ("a load below the red zone", "swapped", "4881ec0001000048893c244881c400010000488b842400ffffff480fc8c3", "reads below the stack"),
         # sub rsp, 256; mov [rsp], rdi; add rsp, 256; sub rsp, 256; mov rax, [rsp]; add rsp, 256; bswap rax; ret
         ("what the stack has lost", "swapped", "4881ec0001000048893c244881c4000100004881ec00010000488b04244881c400010000480fc8c3", "WRONG: the result"),
         # .byte 0x66, 0xe9, 0, 0; mov rax, rdi; bswap rax; ret
         ("a jump of another size", "swapped", "66e900004889f8480fc8c3", "a prefix of jmp"),
+        # .byte 0xf3, 0x0f, 0x57, 0xc9; mov rax, rdi; bswap rax; ret
+        ("a prefix that no processor takes", "swapped", "f30f57c94889f8480fc8c3", "a prefix of xorps"),
+        # mov ecx, edi; .byte 0x66, 0x0f, 0xc9; mov rax, rdi; bswap rax; ret
+        ("a swap of 16 bits", "swapped", "89f9660fc94889f8480fc8c3", "instruction bswap"),
+        # mov [rsp-8], rdi; .byte 0x63, 0x44, 0x24, 0xf8; mov rax, rdi; bswap rax; ret
+        ("a move of 32 bits that is taken for one of 64", "swapped", "48897c24f8634424f84889f8480fc8c3", "instruction movsxd"),
     ],
     "EM_AARCH64": [
         # stp x1, x0, [sp, #-16]!; ldr h0, [sp]; str h0, [x2]; ldr h1, [sp, #8]; str h1, [x2, #8]; add sp, sp, #16; ret
-        ("loads and stores of 16 bits of a vector", "word_to_bytes_0", "e103bfa9e003407d4000007de113407d4110007dff430091c0035fd6", "a register h0"),
+        ("loads and stores of 16 bits of a vector", "word_to_bytes_0", "e103bfa9e003407d4000007de113407d4110007dff430091c0035fd6", "a register h0 that is written"),
         # stp x1, x0, [sp, #-16]!; ldr b0, [sp]; str b0, [x2]; ldr b1, [sp, #8]; str b1, [x2, #8]; add sp, sp, #16; ret
-        ("loads and stores of 8 bits of a vector", "word_to_bytes_0", "e103bfa9e003403d4000003de123403d4120003dff430091c0035fd6", "a register b0"),
+        ("loads and stores of 8 bits of a vector", "word_to_bytes_0", "e103bfa9e003403d4000003de123403d4120003dff430091c0035fd6", "a register b0 that is written"),
         # stp x1, x0, [x2]; mov v0.d[0], x1; str b0, [x2]; ret
         ("a store of 8 bits of a vector", "word_to_bytes_0", "410000a9201c084e4000003dc0035fd6", "a register b0"),
         # fmov d1, x0; clz v0.8b, v1.8b; rev x0, x0; ret
@@ -63,13 +69,15 @@ WRONG = {
         # movi v8.16b, #1; rev x0, x0; ret
         ("a vector that is not saved", "swapped", "28e4004f000cc0dac0035fd6", "does not restore v8"),
         # add wsp, w0, #16; rev x0, x0; ret
-        ("half of the stack pointer", "swapped", "1f400011000cc0dac0035fd6", "a register wsp"),
+        ("half of the stack pointer", "swapped", "1f400011000cc0dac0035fd6", "a register wsp that is written"),
         # adrp x1, page 7; rev x0, x0; lsr x1, x1, #32; eor x0, x0, x1; ret
         ("a page as data", "swapped", "210000f0000cc0da21fc60d3000001cac0035fd6", "WRONG: the result"),
         # adrp x1, page 7; adrp x2, page 8; sub x1, x2, x1; sub x1, x1, #1, lsl #12; eor x0, x0, x1; rev x0, x0; ret
         ("the distance of pages", "swapped", "210000f042000090410001cb210440d1000001ca000cc0dac0035fd6", "WRONG: the result"),
         # mov x9, x30; bl 1f; mov x30, x9; rev x0, x0; eor x0, x0, x1; ret; 1: lsr x1, x30, #32; ret
         ("a return address as data", "swapped", "e9031eaa05000094fe0309aa000cc0da000001cac0035fd6c1ff60d3c0035fd6", "WRONG: the result"),
+        # mov x9, sp; sub sp, sp, #16; str w9, [x9, #-16]!; add sp, sp, #16; rev x0, x0; ret
+        ("a base that is loaded or stored too", "swapped", "e9030091ff4300d1290d1fb8ff430091000cc0dac0035fd6", "the base of str"),
         # ldr x1,.+0x7000; eor x0, x0, x1; rev x0, x0; ret
         ("a load of a literal", "swapped", "01800358000001ca000cc0dac0035fd6", "an address of ldr"),
         # adrp x1, page 8; cbz x0, 1f; adrp x1, page 7; 1: ldr x2, [x1, #8]; eor x0, x0, x2; rev x0, x0; ret
@@ -91,9 +99,9 @@ TEXTS = {
         # xor rdi, [rip+0x6ff9]; mov rax, rdi; bswap rax; ret
         # xor rdi, [rip+0x7009]; mov rax, rdi; bswap rax; ret
         ("another constant", False, "48333df96f00004889f8480fc8c3", "48333d097000004889f8480fc8c3"),
-        # lea rax, [rip+0x1000]; ret
-        # lea rax, [rip+0x1001]; ret
-        ("another place as data", False, "488d0500100000c3", "488d0501100000c3"),
+        # lea rax, [rip+0x6ff9]; ret
+        # lea rax, [rip+0x7ff9]; ret
+        ("another place as data", False, "488d05f96f0000c3", "488d05f97f0000c3"),
     ],
     "EM_AARCH64": [
         # adrp x1, page 7; ldr x2, [x1, #8]; eor x0, x0, x2; rev x0, x0; ret

@@ -1,5 +1,7 @@
 """The x86-64 instructions that the functions have, and the System V ABI, by Intel's manual, volume 2. A flag that it leaves undefined
 becomes an unknown, and an instruction that is not here is refused."""
+import itertools
+
 import capstone
 import z3
 from capstone import x86_const as c
@@ -17,6 +19,8 @@ for name in FULL[8:]:
     PARTS |= {f"{name}d": (name, 32, 0), f"{name}w": (name, 16, 0), f"{name}b": (name, 8, 0)}
 ARGUMENTS = "rdi rsi rdx rcx r8 r9".split()
 FLAGS = "CF ZF SF OF".split()
+PREFIXES = bytes.fromhex("f0 f2 f3 66 67 26 2e 36 3e 64 65")
+OWN = {"movdqu": 0xF3, "movq": 0xF3, "pshuflw": 0xF2, "pshufhw": 0xF3, "endbr64": 0xF3}
 # the other names of conditions, and the conditions that are the opposite of another
 SAME = {"c": "b", "nae": "b", "z": "e", "na": "be", "nge": "l", "ng": "le"}
 OPPOSITE = {"ae": "b", "nb": "b", "nc": "b", "ne": "e", "nz": "e", "a": "be", "nbe": "be", "ns": "s", "no": "o", "ge": "l", "nl": "l", "g": "le", "nle": "le"}
@@ -176,10 +180,10 @@ class X86(Lifter):
 
     def step(self, state, one):
         name, operands = one.mnemonic, one.operands
-        # an operand size of 16 bits is in the operands; the others are a lock or a repetition, except where they are of the instruction
-        if {0xF0, 0xF2, 0xF3} & {*one.prefix} and not name.startswith(("mov", "bsr", "nop")):
-            raise Refused(f"a prefix of {name}")
-        if 0x66 in one.prefix and name.startswith(("j", "call", "ret")):  # its size depends on the maker of the processor
+        # an operand size of 16 bits is in the operands, but for jumps it depends on the maker of the processor; the others are a lock or a
+        # repetition, except where they are of the instruction. capstone leaves some out of one.prefix
+        prefixes = {*itertools.takewhile(PREFIXES.__contains__, one.bytes)}
+        if prefixes & {0xF0, 0xF2, 0xF3} - {OWN.get(name)} or 0x66 in prefixes and name.startswith(("j", "call", "ret")):
             raise Refused(f"a prefix of {name}")
         size = 8 * operands[0].size if operands else 0
         get, put = lambda k, size=None: self.get(state, one, k, size), lambda term: self.put(state, one, 0, term)
@@ -197,7 +201,7 @@ class X86(Lifter):
             put(get(1, size))
         elif name == "movzx":
             put(wide(get(1), size))
-        elif name in ("movsx", "movsxd", "cdqe"):
+        elif name == "movsx":  # and not movsxd: of one without REX.W, capstone says that it fills 64 bits
             put(signed(get(1), size))
         elif name == "lea" and operands[1].mem.base != c.X86_REG_RIP:  # where the code is loaded is no data
             put(low(self.address(state, one, operands[1]), size))
@@ -239,7 +243,7 @@ class X86(Lifter):
             state.flags["OF"], state.flags["SF"] = unknown(0), unknown(0)
             if name == "btr":
                 put(a & ~(bv(1, size) << place))
-        elif name == "bswap":
+        elif name == "bswap" and size > 16:
             put(z3.Concat(*[bits(get(0), 8 * k + 7, 8 * k) for k in range(size // 8)]))
         elif name.startswith("cmov"):
             put(z3.If(condition(name[4:], state.flags), get(1), get(0)))
