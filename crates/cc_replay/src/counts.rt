@@ -34,7 +34,7 @@ pub struct Counts {
     pub frees: u64,
     /// The number of events that request an alignment above 1.
     pub aligned: u64,
-    /// The number of events that request 0 bytes.
+    /// The number of events that request no bytes.
     pub zero: u64,
     /// The number of lines that report that the program could not make an object.
     pub failed: u64,
