@@ -1,4 +1,3 @@
 pub mod SlotLemmas
 pub mod CommandLemmas
 pub mod TallyLemmas
-mod OperationLemmas

@@ -1,6 +1,5 @@
 -- In reading order.
 pub mod Commands
-pub mod Operations
 pub mod Replies
 pub mod Planning
 pub mod Request

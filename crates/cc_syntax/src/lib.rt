@@ -3,7 +3,6 @@
 
 mod line_hints;
 mod numbers;
-mod operations;
 mod parsing;
 mod planning;
 mod printing;
@@ -14,7 +13,6 @@ mod words;
 
 pub use cc_values::{both, read_address, read_permissions};
 pub use numbers::read_length;
-pub use operations::op_line;
 pub use parsing::{MOST_BYTES, Taker, parse_line, take_command};
 pub use planning::{plan_numbers, plan_opening};
 pub use printing::{push_any_reply, push_reply, reply_line};
