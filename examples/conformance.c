@@ -601,8 +601,8 @@ static void check_types(void)
     }
 }
 
-#define PERMISSIONS(OF)                                                                                  \
-    OF(GLOBAL) OF(EXECUTE) OF(LOAD) OF(STORE) OF(LOAD_CAP) OF(STORE_CAP) OF(STORE_LOCAL_CAP) OF(SEAL)    \
+#define PERMISSIONS(OF) \
+    OF(GLOBAL) OF(EXECUTE) OF(LOAD) OF(STORE) OF(LOAD_CAP) OF(STORE_CAP) OF(STORE_LOCAL_CAP) OF(SEAL) \
     OF(CINVOKE) OF(UNSEAL) OF(SYSTEM_REGS) OF(SET_CID) OF(USER0) OF(USER1) OF(USER2) OF(USER3)
 
 // Prints the code and the name of each refusal of a rule.
