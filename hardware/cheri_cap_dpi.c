@@ -47,22 +47,6 @@ void cheri_cap_dpi_unpack(const svBitVecVal *word, unsigned short *perms, unsign
     *address = r.address;
 }
 
-void cheri_cap_dpi_pack(unsigned short perms, unsigned char reserved, unsigned char flag, unsigned int otype, unsigned char ie, unsigned short t, unsigned short b, unsigned long long address, svBitVecVal *word);
-void cheri_cap_dpi_pack(unsigned short perms, unsigned char reserved, unsigned char flag, unsigned int otype, unsigned char ie, unsigned short t, unsigned short b, unsigned long long address, svBitVecVal *word)
-{
-    cheri_cap_fields f;
-    f.perms = perms;
-    f.reserved = reserved;
-    f.flag = flag != 0;
-    f.otype = otype;
-    f.ie = ie != 0;
-    f.t = t;
-    f.b = b;
-    f.address = address;
-    cheri_cap_u128 r = cheri_cap_pack(f);
-    store_word(word, r.high, r.low);
-}
-
 unsigned short cheri_cap_dpi_perms(const svBitVecVal *word);
 unsigned short cheri_cap_dpi_perms(const svBitVecVal *word)
 {
@@ -79,6 +63,22 @@ unsigned char cheri_cap_dpi_flag(const svBitVecVal *word);
 unsigned char cheri_cap_dpi_flag(const svBitVecVal *word)
 {
     return cheri_cap_flag(HALVES(word));
+}
+
+void cheri_cap_dpi_pack(unsigned short perms, unsigned char reserved, unsigned char flag, unsigned int otype, unsigned char ie, unsigned short t, unsigned short b, unsigned long long address, svBitVecVal *word);
+void cheri_cap_dpi_pack(unsigned short perms, unsigned char reserved, unsigned char flag, unsigned int otype, unsigned char ie, unsigned short t, unsigned short b, unsigned long long address, svBitVecVal *word)
+{
+    cheri_cap_fields f;
+    f.perms = perms;
+    f.reserved = reserved;
+    f.flag = flag != 0;
+    f.otype = otype;
+    f.ie = ie != 0;
+    f.t = t;
+    f.b = b;
+    f.address = address;
+    cheri_cap_u128 r = cheri_cap_pack(f);
+    store_word(word, r.high, r.low);
 }
 
 unsigned char cheri_cap_dpi_is_canonical(const svBitVecVal *word);
@@ -207,24 +207,10 @@ const char *cheri_cap_dpi_format(const svBitVecVal *word, unsigned char tag)
     return text;
 }
 
-const char *cheri_cap_dpi_refusal_name(unsigned char refusal);
-const char *cheri_cap_dpi_refusal_name(unsigned char refusal)
-{
-    return cheri_cap_refusal_name(refusal);
-}
-
 unsigned char cheri_cap_dpi_set_address(const svBitVecVal *word, unsigned long long address, svBitVecVal *result);
 unsigned char cheri_cap_dpi_set_address(const svBitVecVal *word, unsigned long long address, svBitVecVal *result)
 {
     cheri_cap_made r = cheri_cap_set_address(HALVES(word), address);
-    store_word(result, r.high, r.low);
-    return r.refusal;
-}
-
-unsigned char cheri_cap_dpi_set_offset(const svBitVecVal *word, unsigned long long offset, svBitVecVal *result);
-unsigned char cheri_cap_dpi_set_offset(const svBitVecVal *word, unsigned long long offset, svBitVecVal *result)
-{
-    cheri_cap_made r = cheri_cap_set_offset(HALVES(word), offset);
     store_word(result, r.high, r.low);
     return r.refusal;
 }
@@ -297,6 +283,20 @@ unsigned char cheri_cap_dpi_is_subset(const svBitVecVal *word, const svBitVecVal
 unsigned char cheri_cap_dpi_is_subset(const svBitVecVal *word, const svBitVecVal *outer)
 {
     return cheri_cap_is_subset(HALVES(word), HALVES(outer));
+}
+
+const char *cheri_cap_dpi_refusal_name(unsigned char refusal);
+const char *cheri_cap_dpi_refusal_name(unsigned char refusal)
+{
+    return cheri_cap_refusal_name(refusal);
+}
+
+unsigned char cheri_cap_dpi_set_offset(const svBitVecVal *word, unsigned long long offset, svBitVecVal *result);
+unsigned char cheri_cap_dpi_set_offset(const svBitVecVal *word, unsigned long long offset, svBitVecVal *result)
+{
+    cheri_cap_made r = cheri_cap_set_offset(HALVES(word), offset);
+    store_word(result, r.high, r.low);
+    return r.refusal;
 }
 
 void cheri_cap_dpi_with_address(const svBitVecVal *word, unsigned long long address, svBitVecVal *result);

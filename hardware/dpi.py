@@ -1,7 +1,7 @@
 #!/usr/bin/env python3
-"""Makes the imports of SystemVerilog, cheri_cap_dpi.sv, and their wrappers, cheri_cap_dpi.c, from one list of functions.
+"""Makes the imports of SystemVerilog, cheri_cap_dpi.sv, and their wrappers, cheri_cap_dpi.c, from the functions of include/cheri_cap.h.
 
-    dpi.py            compares the two files with those that it makes, and the list with include/cheri_cap.h; status 1 if they differ
+    dpi.py            compares the two files with those that it makes; status 1 if they differ
     dpi.py --write    writes them
 """
 import re
@@ -17,57 +17,31 @@ SV = {"u64": "longint unsigned", "u32": "int unsigned", "u16": "shortint unsigne
       "string": "string", **{name: f"bit [{bits - 1}:0]" for name, bits in WIDE.items()}}
 C = {"u64": "unsigned long long", "u32": "unsigned int", "u16": "unsigned short", "u8": "unsigned char", "flag": "unsigned char",
      "string": "const char *", **{name: "svBitVecVal" for name in WIDE}}
+# the types of numbers in the header
+NUMBERS = {"uint64_t": "u64", "uint32_t": "u32", "uint16_t": "u16", "uint8_t": "u8", "bool": "flag"}
 
-# Each function: its name, its result or void, and its inputs; its outputs, with their values if these are not members of `r` with their
-# names; the statements, of which the last is the result. A wide input in them is replaced with its two halves.
+# The functions that are not as `regular` makes them. Each has its name, its result or void, and its inputs; its outputs, with their values
+# if these are not members of `r` with their names; the statements, of which the last is the result. A wide input in them is replaced with
+# its two halves.
 FUNCTIONS = """
 version               u32     -                                   | - | cheri_cap_version()
 unpack                void    word:word                           | perms:u16 reserved:u8 flag:flag otype:u32 ie:flag t:u16 b:u16 address:u64 | cheri_cap_fields r = cheri_cap_unpack(word)
 pack                  void    perms:u16 reserved:u8 flag:flag otype:u32 ie:flag t:u16 b:u16 address:u64 | word:word=r.high,r.low | cheri_cap_fields f; f.perms = perms; f.reserved = reserved; f.flag = flag != 0; f.otype = otype; f.ie = ie != 0; f.t = t; f.b = b; f.address = address; cheri_cap_u128 r = cheri_cap_pack(f)
-perms                 u16     word:word                           | - | cheri_cap_perms(word)
-otype                 u32     word:word                           | - | cheri_cap_otype(word)
-flag                  flag    word:word                           | - | cheri_cap_flag(word)
-is_canonical          flag    word:word                           | - | cheri_cap_is_canonical(word)
-defect                u8      word:word                           | - | cheri_cap_defect(word)
 decode                void    word:word                           | exponent:u8 base:u64 top:top=r.top_high,r.top_low | cheri_cap_bounds r = cheri_cap_decode(word)
-exponent              u8      word:word                           | - | cheri_cap_exponent(word)
 word_length           void    word:word                           | length:word=r.high,r.low | cheri_cap_u128 r = cheri_cap_word_length(word)
-word_granule          u64     word:word                           | - | cheri_cap_word_granule(word)
 set_bounds            void    base:u64 length:length              | in_range:flag exact:flag ie:flag t:u16 b:u16 exponent:u8 granted_base:u64=r.base granted_top:top=r.top_high,r.top_low | cheri_cap_granted r = cheri_cap_set_bounds(base, length)
 lost                  void    base:u64 length:length              | in_range:flag lost_before:u64=r.before lost_after:u64=r.after | cheri_cap_excess r = cheri_cap_lost(base, length)
-represents            flag    word:word address:u64               | - | cheri_cap_represents(word, address)
-keeps_bounds          flag    word:word address:u64               | - | cheri_cap_keeps_bounds(word, address)
 window                void    word:word                           | first:u64 last:u64 | cheri_cap_ends r = cheri_cap_window(word)
-granule               u64     length:length                       | - | cheri_cap_granule(length)
 round_length          void    length:length                       | rounded:top=r.high,r.low | cheri_cap_u128 r = cheri_cap_round_length(length)
-alignment_mask        u64     length:length                       | - | cheri_cap_alignment_mask(length)
 read_word             flag    text:string                         | word:word=r.high,r.low | cheri_cap_read r = cheri_cap_read_word(text, strlen(text)); RESULT r.found
 write_word            string  word:word                           | - | static char text[33]; cheri_cap_write_word(word, text); RESULT text
 format                string  word:word tag:flag                  | - | static char text[CHERI_CAP_LINE_SIZE]; cheri_cap_format(word, tag != 0, text); RESULT text
 refusal_name          string  refusal:u8                          | - | cheri_cap_refusal_name(refusal)
-set_address           u8      word:word address:u64               | result:word=r.high,r.low | cheri_cap_made r = cheri_cap_set_address(word, address); RESULT r.refusal
-set_offset            u8      word:word offset:u64                | result:word=r.high,r.low | cheri_cap_made r = cheri_cap_set_offset(word, offset); RESULT r.refusal
-increment             u8      word:word amount:u64                | result:word=r.high,r.low | cheri_cap_made r = cheri_cap_increment(word, amount); RESULT r.refusal
-set_bounds_on         u8      word:word length:word               | result:word=r.high,r.low | cheri_cap_made r = cheri_cap_set_bounds_on(word, length); RESULT r.refusal
-set_bounds_exact_on   u8      word:word length:word               | result:word=r.high,r.low | cheri_cap_made r = cheri_cap_set_bounds_exact_on(word, length); RESULT r.refusal
-and_perms             u8      word:word mask:u16                  | result:word=r.high,r.low | cheri_cap_made r = cheri_cap_and_perms(word, mask); RESULT r.refusal
-set_flag              u8      word:word flag:flag                 | result:word=r.high,r.low | cheri_cap_made r = cheri_cap_set_flag(word, flag != 0); RESULT r.refusal
-seal                  u8      word:word authority:word            | result:word=r.high,r.low | cheri_cap_made r = cheri_cap_seal(word, authority); RESULT r.refusal
-unseal                u8      word:word authority:word            | result:word=r.high,r.low | cheri_cap_made r = cheri_cap_unseal(word, authority); RESULT r.refusal
-rebuild               u8      authority:word word:word            | result:word=r.high,r.low | cheri_cap_made r = cheri_cap_rebuild(authority, word); RESULT r.refusal
-is_subset             flag    word:word outer:word                | - | cheri_cap_is_subset(word, outer)
-with_address          void    word:word address:u64               | result:word=r.high,r.low | cheri_cap_u128 r = cheri_cap_with_address(word, address)
-with_perms            void    word:word perms:u16                 | result:word=r.high,r.low | cheri_cap_u128 r = cheri_cap_with_perms(word, perms)
-with_flag             void    word:word flag:flag                 | result:word=r.high,r.low | cheri_cap_u128 r = cheri_cap_with_flag(word, flag != 0)
-with_type             void    word:word otype:u64                 | result:word=r.high,r.low | cheri_cap_u128 r = cheri_cap_with_type(word, otype)
 with_bounds           void    word:word ie:flag t:u16 b:u16       | result:word=r.high,r.low | cheri_cap_granted g; memset(&g, 0, sizeof g); g.ie = ie != 0; g.t = t; g.b = b; cheri_cap_u128 r = cheri_cap_with_bounds(word, &g)
 """
 
-# The functions of the header that have no line above, and the SystemVerilog to use.
+# The functions of the header that SystemVerilog does not need, and what to use there. Nor does it need those on arrays.
 OMITTED = {
-    "decode_many": "a loop", "is_canonical_many": "a loop", "represents_many": "a loop",
-    "decode_memory": "a loop", "is_canonical_memory": "a loop", "represents_memory": "a loop", "search_memory": "a loop",
-    "set_bounds_many": "a loop", "round_length_many": "a loop", "alignment_mask_many": "a loop", "set_bounds_memory": "a loop",
     "null": "128'd0", "root": "{16'hffff, 112'd0}", "perms_of": "perms", "otype_of": "otype", "is_sealed": "otype", "is_sentry": "otype",
     "compare": "<", "top": "an output of decode", "length": "top - base", "offset": "address - base", "swapped": "{<<8{half}}",
     "is_big_endian": "a word has no byte order", "word_from_bytes": "a concatenation", "word_to_bytes": "a concatenation",
@@ -117,8 +91,43 @@ def parameters(text):
         yield name, kind, expression
 
 
+def declared():
+    """Yields the result, the name and the parameters of each function of the header, but for those on arrays."""
+    header = re.sub(r"/\*.*?\*/|^\s*#.*?$", "", HEADER.read_text(), flags=re.S | re.M)
+    for result, name, inputs in re.findall(r"(\w+ \*?)cheri_cap_(\w*[a-z0-9])\(([^()]*)\) CHERI_CAP_NOEXCEPT", header):
+        if not name.endswith(("_many", "_memory")):
+            yield result.strip(), name, [" ".join(it.split()) for it in inputs.split(",")]
+
+
+def regular(result, name, inputs):
+    """Returns the line of a function of words, lengths and numbers that returns a number, a word, or a word or a refusal. A length of a
+    rule may be any number of 128 bits."""
+    given, call = [], []
+    for it in inputs:
+        kind, _, parameter = it.rpartition(" ")
+        if wide := re.fullmatch(r"(?:(\w+)_)?high", parameter):
+            given.append(f"{wide[1] or 'word'}:{'length' if wide[1] == 'length' and result != 'cheri_cap_made' else 'word'}")
+            call.append(wide[1] or "word")
+        elif not re.fullmatch(r"(?:\w+_)?low", parameter):
+            given.append(f"{parameter}:{NUMBERS[kind]}")
+            call.append(f"{parameter} != 0" if kind == "bool" else parameter)
+    call = f"cheri_cap_{name}({', '.join(call)})"
+    if result in NUMBERS:
+        return f"{name} {NUMBERS[result]} {' '.join(given)} | - | {call}"
+    returns, more = {"cheri_cap_made": ("u8", "; RESULT r.refusal"), "cheri_cap_u128": ("void", "")}[result]
+    return f"{name} {returns} {' '.join(given)} | result:word=r.high,r.low | {result} r = {call}{more}"
+
+
 def functions():
-    for line in FUNCTIONS.strip().splitlines():
+    listed = {it.split()[0]: it for it in FUNCTIONS.strip().splitlines()}
+    found = [it for it in declared() if it[1] not in OMITTED]
+    if missing := {*listed, *OMITTED} - {name for _, name, _ in declared()}:
+        sys.exit(f"the header does not have {sorted(missing)}")
+    for result, name, inputs in found:
+        try:
+            line = listed.get(name) or regular(result, name, inputs)
+        except KeyError:
+            sys.exit(f"{name} needs a line of FUNCTIONS, or one of OMITTED")
         head, outputs, body = line.split("|")
         name, result, inputs = head.split(None, 2)
         yield name, result, [*parameters(inputs)], [*parameters(outputs)], body.strip()
@@ -171,11 +180,6 @@ def files():
 def main(arguments):
     if arguments not in ([], ["--write"]):
         sys.exit(__doc__)
-    header = re.sub(r"/\*.*?\*/|^\s*#.*?$", "", HEADER.read_text(), flags=re.S | re.M)
-    declared = {*re.findall(r"\bcheri_cap_([a-z0-9_]*[a-z0-9])\(", header)}
-    named = {it[0] for it in functions()} | {*OMITTED}
-    if declared - named or named - declared:
-        sys.exit(f"the header has {sorted(declared - named)}, and not {sorted(named - declared)}")
     for name, text in files().items():
         if arguments:
             (HERE / name).write_text(text)
