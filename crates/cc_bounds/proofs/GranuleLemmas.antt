@@ -59,19 +59,6 @@ last_granule top power some =
     let sum : top - 1 + 2 ^ power ≡ top + (2 ^ power - 1) = omega (arith, some, pos) in
     sym (add-div_right (top - 1) pos) ∙ ap (λ (n : ℕ). n / 2 ^ power) sum ∙ div_ceil_shifted top power (2 ^ power - 1) refl
 
--- of a request of at least one byte, the first byte's granule is not past the last one's
-pub first_granule_within : (base top power : ℕ) → base < top → base / 2 ^ power ≤ (top - 1) / 2 ^ power
-first_granule_within base top power some =
-    let down = div-mul-le_self base (2 ^ power) in
-    le-div (base / 2 ^ power) (top - 1) (2 ^ power) (pow_pos power) (omega (arith, down, some))
-
--- counted in granules of eight bytes or more, the last one's number and one more is below 2 ^ 64
-pub last_granule_fits : (top power : ℕ) → top ≤ 2 ^ 64 → 3 ≤ power → (top - 1) / 2 ^ power + 1 < 2 ^ 64
-last_granule_fits top power fits coarse =
-    let eight = mul-le-mul_left ((top - 1) / 2 ^ power) (pow_mono coarse) in
-    let down = div-mul-le_self (top - 1) (2 ^ power) in
-    omega (arith, eight, down, fits)
-
 -- adding the low bits and then clearing them rounds up to a multiple of the power of two
 pub rounded_up_masked : (n power rest : ℕ) → n ≤ 2 ^ 64 → power ≤ 55 → rest ≡ 2 ^ power - 1
     → bit_and (n + rest) (2 ^ 128 - 1 - rest) ≡ div_ceil n (2 ^ power) * 2 ^ power
@@ -313,33 +300,6 @@ pub length_granule : (request : Span) (size power : ℕ) → 512 * 2 ^ power ≤
 length_granule request size power least is long three few =
     let least' : 512 * 2 ^ power ≤ length_of request = omega (arith, least, is) in
     first_granule request power long three few (length-before request power (omega arith) least')
-
--- if the request touches more, the granule has the next power
-pub grown_granule : (request : Span) (size power : ℕ) → 512 * 2 ^ power ≤ size → size < 1024 * 2 ^ power
-    → size ≡ length_of request → 4096 ≤ length_of request → 3 ≤ power → 1023 < granule_count request (2 ^ power)
-    → IsGranule request (2 ^ (power + 1))
-grown_granule request size power least below is long three many =
-    let least' : 512 * 2 ^ power ≤ length_of request = omega (arith, least, is) in
-    let two : 2 ^ (power + 1) ≡ 2 * 2 ^ power = let s : power + 1 ≡ suc power = omega arith in let p = pow-suc 2 power in rw s (omega (arith, p)) in
-    let few = granule_count-few request (2 ^ (power + 1)) 512 (pow_pos (power + 1)) (omega arith) (omega (arith, below, is, two)) in
-    let before = length-before request power (omega arith) least' in
-    first_granule request (power + 1) long (omega arith) (omega (arith, few))
-    (λ k from_three less. elim (cases_lt k power) [
-      | inl smaller ↦ before k from_three smaller
-      | inr larger ↦ let same : k ≡ power = omega (arith, less, larger) in rw same many
-    ])
-
--- the next power is at most 55: of the largest granule every request touches few enough
-pub grown_fits : (request : Span) (power : ℕ) → request.top ≤ 2 ^ 64 → power ≤ 55 → 1023 < granule_count request (2 ^ power) → power + 1 ≤ 55
-grown_fits request power fits most many =
-    elim (cases_lt power 55) [
-      | inl less ↦ omega (arith, less)
-      | inr same ↦
-          let is : power ≡ 55 = omega (arith, most, same) in
-          let few = few_at_52 request fits in
-          let many' : 1023 < granule_count request (2 ^ 55) = rw is at many in
-          absurd (omega (arith, few, many'))
-    ]
 
 -- ---- the power of two by the leading zeros of the distance from the first byte to the last
 

@@ -73,13 +73,3 @@ module _ {S : Type 0} (options_of : S → Options) (Answered : Relation S) (answ
       )
   are_answers old new [] (reply ∷ replies) t = absurd t
   are_answers old new (entry ∷ entries) [] t = absurd t
-
--- trailing bytes are refused, and without them there is no reply
-pub rest_refused : {S : Type 0} (old new : S) (rest : List ℕ) (ending : Answer) → EndsWith RefusesUnfinished old (take 129 rest) ending new → ending.text ≡ rest_text rest
-rest_refused old new [] ending e = e.0
-rest_refused old new (byte ∷ rest) ending e = e.0
-
-pub rest_is_error : {S : Type 0} (old new : S) (rest : List ℕ) (ending : Answer) → EndsWith RefusesUnfinished old (take 129 rest) ending new
-    → ending.is_error ≡ not (length rest == 0)
-rest_is_error old new [] ending e = e.1
-rest_is_error old new (byte ∷ rest) ending e = e.1 ∙ sym (ap not (eqb-suc-zero (length rest)))

@@ -67,53 +67,12 @@ pub record Skipping (count rest : ℕ) (unread left : Option (List ℕ)) : Type 
   pub given : Consumes unread left text
   pub counted : length text + rest ≡ count
 
-pub skipping_begins : (count : ℕ) (a : Option (List ℕ)) → Skipping count count a a
-skipping_begins count a = record { text = []; given = Consumes-nil a; counted = omega arith }
-
 pub skipping_more : (count rest n : ℕ) (a b c : Option (List ℕ)) (bytes : List ℕ) → Skipping count rest a b → Consumes b c bytes → length bytes ≡ n → n ≤ rest
     → Skipping count (rest - n) a c
 skipping_more count rest n a b c bytes skipped given sized fits = record {
   text = skipped.text ++ bytes;
   given = Consumes-trans a b c skipped.text bytes skipped.given given;
   counted = omega (arith, length-append skipped.text bytes, sized, fits, skipped.counted);
-}
-
--- all of them were given
-pub skips_all : (count rest : ℕ) (a b : InputState) → Skipping count rest a.unread b.unread → rest ≡ 0 → b.has_failed ≡ false → Skips {E = Failed} count a b (Ok tt)
-skips_all count rest a b skipped none works = record {
-  text = skipped.text;
-  given = skipped.given;
-  ends = inl (omega (arith, skipped.counted, none));
-  fewer = tt;
-  fails = (λ no. absurd (cc (no)), λ failed. absurd (cc (works, failed)));
-}
-
--- the source had fewer
-pub skips_fewer : (count rest : ℕ) (a b c : InputState) → Skipping count rest a.unread b.unread → Consumes b.unread c.unread [] → IsAtEnd c.unread → 0 < rest → c.has_failed ≡ false
-    → Skips {E = Failed} count a c (Ok tt)
-skips_fewer count rest a b c skipped given ended some works = record {
-  text = skipped.text;
-  given = subst (λ (l : List ℕ). Consumes a.unread c.unread l) (append-nil skipped.text) (Consumes-trans a.unread b.unread c.unread skipped.text [] skipped.given given);
-  ends = inr (omega (arith, skipped.counted, some), ended);
-  fewer = tt;
-  fails = (λ no. absurd (cc (no)), λ failed. absurd (cc (works, failed)));
-}
-
--- a call that fails gives nothing
-consumes_kept : (a b : Option (List ℕ)) → Keeps a b → Consumes a b []
-consumes_kept None b kept = tt
-consumes_kept (Some xs) None kept = kept
-consumes_kept (Some xs) (Some ys) kept = sym kept
-
-pub gives_fewer : (count rest : ℕ) (a b c : InputState) (failed : Failed) → Skipping count rest a.unread b.unread → Keeps b.unread c.unread → 0 < rest → c.has_failed ≡ true
-    → Skips count a c (Err failed)
-gives_fewer count rest a b c failed skipped kept some fails = record {
-  text = skipped.text;
-  given = subst (λ (l : List ℕ). Consumes a.unread c.unread l) (append-nil skipped.text)
-      (Consumes-trans a.unread b.unread c.unread skipped.text [] skipped.given (consumes_kept b.unread c.unread kept));
-  ends = tt;
-  fewer = omega (arith, skipped.counted, some);
-  fails = (λ _. fails, λ _. refl);
 }
 
 -- ---- the text after the skipped bytes
@@ -213,40 +172,7 @@ stops_header options [] left t u took =
     nothing (suc count) appends = appends
 stops_header options (byte ∷ header) left t u took = inl (refl, record { some = omega arith; are_answers = tt; written = took })
 
-wrote_header : (options : Options) (header : List ℕ) (left t u : Option (List ℕ)) → Appends t u header
-    → Heads (Some 0) options header left t u (Ok (record { any_error = false }))
-wrote_header options header left t u wrote = (
-  over_none options.input left,
-  record {
-    answers = [];
-    are_answers = tt;
-    written =
-        subst (λ (rest : List ℕ). Appends t u (header ++ [] ++ rest_text rest)) (sym (rest_none options.input))
-        (subst (Appends t u) (sym (append-nil (header ++ []) ∙ append-nil header)) wrote);
-    error_is = subst (λ (rest : List ℕ). false ≡ (false || not (length rest == 0))) (sym (rest_none options.input)) refl;
-  },
 )
-
--- a source that skipped has not failed
-works_after : {count : ℕ} {a b : InputState} → Skips {E = Failed} count a b (Ok tt) → false ≡ b.has_failed
-works_after {count} {a} {b} skips = by b.has_failed (λ failed. false≢true (skips.fails.1 failed)) where
-  by : (failed : Bool) → (failed ≡ true → ⊥) → false ≡ failed
-  by false works = refl
-  by true works = absurd (works refl)
-
--- the header was written
-pub lists_header : (part : Part) (options : Options) (a b : InputState) (t u : OutputState) (header : List ℕ) → part.count ≡ Some 0 → header ≡ header_of options
-    → Skips {E = Failed} part.skipped a b (Ok tt) → SendsBytes {E = IoError} t u header (Ok tt) → Lists part options a b t u (Ok (record { any_error = false }))
-lists_header part options a b t u header none is skips sends =
-    lists_after part options a b b t u (Ok (record { any_error = false })) [] skips (Consumes-nil b.unread)
-    (record {
-      read = (λ no. absurd (cc no), λ failed. absurd (false≢true (works_after skips ∙ failed)));
-      write = (λ no. absurd (cc no), λ failed. cc (sends.fails.1 failed));
-      flushed = sends.flushed;
-    })
-    (subst (λ (l : List ℕ). Heads part.count options l b.unread t.taken u.taken (Ok (record { any_error = false }))) is
-    (subst (λ (count : Option ℕ). Heads count options header b.unread t.taken u.taken (Ok (record { any_error = false }))) (sym none)
-    (wrote_header options header b.unread t.taken u.taken sends.ok)))
 
 -- the sink failed
 pub stops_at_header : (part : Part) (options : Options) (a b : InputState) (t u : OutputState) (header : List ℕ) (error : IoError) → part.count ≡ Some 0

@@ -65,16 +65,6 @@ cells-are start size span some low held = record {
 pub size_fits : (bytes : ℕ) → bytes ≤ 2 ^ 64 → div_ceil bytes 16384 ≤ 2 ^ 50
 size_fits bytes fits = div_ceil-le bytes 16384 (2 ^ 50) (omega arith) (omega (arith, fits))
 
--- There are at most 16,384 cells of at least that size.
-pub cells_fit : (bytes size : ℕ) → 0 < size → div_ceil bytes 16384 ≤ size → div_ceil bytes size ≤ 16384
-cells_fit bytes size above least =
-    let covered = le-div_ceil bytes 16384 (omega arith) in
-    div_ceil-le bytes size 16384 above (omega (arith, covered, least))
-
--- That many cells have at most 16 rows.
-pub rows_fit : (cells : ℕ) → cells ≤ 16384 → div_ceil cells 1024 ≤ 16
-rows_fit cells few = div_ceil-le cells 1024 16 (omega arith) (omega (arith, few))
-
 -- ---- the next output of the loops
 
 -- The next object is in the layer, so its rectangles come first.
@@ -88,10 +78,6 @@ pub layer_left_out : (layout : Layout) (state : ObjectState) (number : ℕ) (obj
     → rest ≡ object ∷ after → is_in state object.state ≡ false
     → layer_text layout state number rest ≡ layer_text layout state (number + 1) after
 layer_left_out layout state number object rest after is other = rw (is, other) refl
-
--- No object is left, so no bytes are.
-pub layer_none : (layout : Layout) (state : ObjectState) (number : ℕ) (rest : List PlannedObject) → rest ≡ [] → layer_text layout state number rest ≡ []
-layer_none layout state number rest is = rw is refl
 
 not-less : (a b : ℕ) → (a < b → ⊥) → b ≤ a
 not-less a b no_less = elim (cases_lt a b) [

@@ -19,16 +19,6 @@ one_more_row objects size (suc rows) start cells row rest above is are =
     let same : suc rows - 1 ≡ rows = omega arith in
     (row, rest, is, subst (λ (n : ℕ). AreMapRows objects size n (start + 64 * size) (cells - 64) rest) same are, refl)
 
--- In a pool of at most 2^64 bytes a cell has at most 2^54.
-pub cell_fits : (bytes : ℕ) → bytes ≤ 2 ^ 64 → div_ceil bytes 1024 ≤ 2 ^ 54
-cell_fits bytes fits = div_ceil-le bytes 1024 (2 ^ 54) (omega arith) (omega (arith, fits))
-
--- There are at most 1,024 cells of at least that size.
-pub few_cells : (bytes size : ℕ) → 0 < size → div_ceil bytes 1024 ≤ size → div_ceil bytes size ≤ 1024
-few_cells bytes size above least =
-    let covered = le-div_ceil bytes 1024 (omega arith) in
-    div_ceil-le bytes size 1024 above (omega (arith, covered, least))
-
 -- That many cells have at most 16 rows.
 pub few_rows : (cells : ℕ) → cells ≤ 1024 → div_ceil cells 64 ≤ 16
 few_rows cells few = div_ceil-le cells 64 16 (omega arith) (omega (arith, few))

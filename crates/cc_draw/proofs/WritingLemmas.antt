@@ -28,10 +28,6 @@ writing_more a b c piece rest whole w p = record {
 pub writing_same : (a b : Option (List ℕ)) (rest other whole : List ℕ) → rest ≡ other → Writing a b rest whole → Writing a b other whole
 writing_same a b rest other whole same w = subst (λ (l : List ℕ). Writing a b l whole) same w
 
--- Nothing is left, so all of it was written.
-pub writing_ends : (a b : Option (List ℕ)) (whole : List ℕ) → Writing a b [] whole → Appends a b whole
-writing_ends a b whole w = subst (λ (l : List ℕ). Appends a b l) (sym (append-nil w.done) ∙ w.whole_is) w.written
-
 -- The last chunk was written, so all of it was.
 pub writing_last : (a b c : Option (List ℕ)) (piece whole : List ℕ) → Writing a b piece whole → Appends b c piece → Appends a c whole
 writing_last a b c piece whole w p = subst (λ (l : List ℕ). Appends a c l) w.whole_is (appends_twice a b c w.done piece w.written p)

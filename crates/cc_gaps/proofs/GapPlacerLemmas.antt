@@ -25,23 +25,6 @@ pub few_pool_gaps : (gaps more : List Span) (span : Span) → gaps ≡ [] → Ar
     → length more ≤ 1
 few_pool_gaps gaps more span none are bytes = few_gaps span [] more (pool_gaps gaps more span none are bytes)
 
--- an empty pool has no gap
-pub empty_pool_gaps : (gaps : List Span) (span : Span) → gaps ≡ [] → span.base ≡ span.top → AreGaps gaps
-    → AreGapsOf span [] gaps
-empty_pool_gaps gaps span none empty are = record {
-  are_gaps = are;
-  are_some = λ k d within. absurd (omega (arith, within));
-  each = λ address. rw none (omega (arith, empty));
-}
-
--- before a pool is set the empty list alone may be held, and it still may
-pub held_with_pool : (limit count : ℕ) (pool : Option Span) (gaps new spans : List Span) (span : Span) → pool ≡ None
-    → MayHold (record { limit = limit; pool = pool; count = count; gaps = gaps }) spans → AreGapsOf span [] new
-    → MayHold (record { limit = limit; pool = Some span; count = count; gaps = new }) spans
-held_with_pool limit count pool gaps new spans span none may are =
-    let free : AreFreeIn None spans gaps = rw none at may.free in
-    record { counted = may.counted; free = subst (λ (held : List Span). AreGapsOf span held new) (sym free.0) are }
-
 -- the first fit among the gaps is the placement
 pub room_of_gaps : (pool : Option Span) (held gaps : List Span) (size align : ℕ) (result : Option ℕ)
     → AreFreeIn pool held gaps → 0 < size → IsFirstFit gaps size align result

@@ -201,12 +201,6 @@ never : (b : Bool) → b ≡ true → b ≡ false → ⊥
 never true is not = cc
 never false is not = cc
 
-pub tries_first : (old new : Heap) (id requested size : ℕ) (making : Making) → is_made making ≡ true
-    → Attempts old id requested size making new → Tries old id requested size making new
-tries_first old new id requested size Made is attempts = inl (refl, attempts)
-tries_first old new id requested size NoRoom is attempts = absurd (never false is refl)
-tries_first old new id requested size Full is attempts = absurd (never false is refl)
-
 -- an attempt that failed: why, and that nothing changed
 pub record IsRefused (old : Heap) (requested size : ℕ) (new : Heap) : Type 0 where
   pub why : HasNoRoomInHeap old requested size
@@ -230,12 +224,6 @@ tries_again old between after new id requested size first (Ok making) not attemp
     )
 tries_again old between after new id requested size first (Err error) not attempts after_is again = tt
 
-pub replaces_first : (old new : Heap) (id requested size : ℕ) (making : Making) → is_made making ≡ true
-    → AttemptsToReplace old id requested size making new → TriesToReplace old id requested size making new
-replaces_first old new id requested size Made is attempts = inl (refl, attempts)
-replaces_first old new id requested size NoRoom is attempts = absurd (never false is refl)
-replaces_first old new id requested size Full is attempts = absurd (never false is refl)
-
 not_replaced : (old new : Heap) (id requested size : ℕ) (making : Making) → is_made making ≡ false
     → AttemptsToReplace old id requested size making new → IsRefused old requested size new
 not_replaced old new id requested size Made not attempts = absurd (never true refl not)
@@ -255,28 +243,7 @@ replaces_again old between after new id requested size first (Ok making) not att
     )
 replaces_again old between after new id requested size first (Err error) not attempts after_is again = tt
 
--- the attempt to put an object over another
-pub put_settled : (old between new : Heap) (id requested size : ℕ) (making : Making) → is_made making ≡ true
-    → PutsOver old id requested size making between → Settles between new
-    → AttemptsToReplace old id requested size making new
-put_settled old between new id requested size Made is puts settles =
-    replaces old between new id requested size puts settles
-put_settled old between new id requested size NoRoom is puts settles = absurd (never false is refl)
-put_settled old between new id requested size Full is puts settles = absurd (never false is refl)
-
-pub put_refused : (old new : Heap) (id requested size : ℕ) (making : Making) → is_made making ≡ false
-    → PutsOver old id requested size making new → AttemptsToReplace old id requested size making new
-put_refused old new id requested size Made not puts = absurd (never true refl not)
-put_refused old new id requested size NoRoom not puts = puts
-put_refused old new id requested size Full not puts = puts
-
 -- ---- events
-
--- a free of an id that is live
-pub freed_live : (old new : Heap) (id : ℕ) (is_live : Bool) → FreesIfLive old id is_live new
-    → IsSome (object_under old id) → FreesInHeap old id new
-freed_live old new id true frees live = frees
-freed_live old new id false (none, same) live = absurd (never (is_some (object_under old id)) live none)
 
 -- numbers that differ
 pub differ : (one other : ℕ) → (one ≡ other → ⊥) → nat_eq other one ≡ false

@@ -15,11 +15,6 @@ appends_twice (Some zs) (Some bs) (Some cs) xs ys p q = q ∙ ap (λ (l : List �
 appends_twice (Some zs) (Some bs) None xs ys p q = q
 appends_twice (Some zs) None c xs ys p q = elim p [ ]
 
--- bytes appended after those that are pending
-pub waits_further : (a : Option (List ℕ)) (xs ys : List ℕ) → Appends (append_known a xs) (append_known a (xs ++ ys)) ys
-waits_further None xs ys = tt
-waits_further (Some zs) xs ys = sym (append_assoc zs xs ys)
-
 pub keeps_appends : (a b : Option (List ℕ)) → Keeps a b → Appends a b []
 keeps_appends None b k = tt
 keeps_appends (Some xs) (Some ys) k = grind (arith, common_steps)

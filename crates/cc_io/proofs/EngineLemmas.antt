@@ -53,14 +53,6 @@ pub record Reads {S : Type 0} (Answered : Relation S) (frame : Frame) (old : S) 
 
 -- ---- beginnings
 
--- the whole of a text is a prefix of it
-pub begins_whole : (t u : Option (List ℕ)) (xs : List ℕ) → Appends t u xs → TakesPrefix t u xs
-begins_whole t u xs p = record {
-  count = length xs;
-  within = omega arith;
-  taken = subst (λ (l : List ℕ). Appends t u l) (sym (take_all (length xs) xs (omega arith))) p;
-}
-
 -- ---- replies in a row
 
 pub all_further : {S : Type 0} (A : Relation S) (a b c : S) (xs ys : List (List ℕ)) (rs ss : List Answer)

@@ -113,11 +113,6 @@ noting_once old new [] once is = subst (λ (r : RunState). AreOnceIn r.heap.memo
 noting_once old new (event ∷ events) once run =
     noting_once run.1 new events (event_once old.heap event run.2.told run.1.heap once run.2.is_event) run.3
 
-pub some_run_event : (settings : Settings) (events : List Event) (old : RunState) (event : Event) → RunsNoting (empty_run settings) events old
-    → LeadsRun old event
-some_run_event settings events old event run =
-    run_leads old event (noting_once (empty_run settings) old events (empty_once settings) run)
-
 -- every list of events leads to a run
 pub record HasRun (old : RunState) (events : List Event) : Type 0 where
   pub new : RunState

@@ -108,11 +108,6 @@ span_unsplit text none =
 
 -- ---- the number of `--each`
 
--- A number of a series that is not 0.
-pub not_zero_some : (number : ℕ) → (number ≡ 0 → ⊥) → Ok number ≡ not_zero (Ok number)
-not_zero_some zero some = absurd (some refl)
-not_zero_some (suc less) some = refl
-
 -- ---- the policies after the first
 
 pub others_summed : (first : List ℕ) (names : List (List ℕ)) (output : Option ReplayOutput) → 0 < length names
