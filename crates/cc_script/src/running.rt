@@ -17,7 +17,7 @@ use cc_io::{
     Answerer, Failed, IoError, Lines, Page, Sink, Source, Summary, make_room, pump, refusal_bytes,
 };
 use cc_machine::{Machine, Op};
-use cc_syntax::{Tally, reply_line};
+use cc_syntax::{Tally, push_any_reply};
 use cc_word::Refusal;
 
 impl<const N: usize> Answerer<N> for Lent<'_> {
@@ -100,16 +100,10 @@ pub fn run_session<R: Source, W: Sink, const N: usize>(
     ensures outcome { IsOutcome (R.state source.new) (W.state sink.new) result }
     ensures laws { KeepsLaws machine.old machine.new }
 {
-    tell_reached(machine);
+    // a contract says that a run leads to each machine's state, but only of a machine that is called
+    let _ = machine.slots();
     let mut lent = Lent { machine, tally };
     answer_script(opening, &mut lent, source, sink, page)
-}
-
-/// Proves the claim that holds for every machine: its state is one that a run leads to.
-fn tell_reached(machine: &Machine)
-    ensures { IsReached machine.now }
-{
-    let _ = machine.slots();
 }
 
 /// Replies to the setup operations, and then to the script.
@@ -189,8 +183,7 @@ fn take_operation<const N: usize>(
     ensures fits { length page.new ≤ length page.old + 193 }
 {
     let reply = machine.step(op);
-    let line = reply_line(&reply);
-    page.push(line.bytes());
+    push_any_reply(page, &reply);
     page.push(b"\n");
     tally.take_opening(&reply);
     is_refusal(&reply)
