@@ -1,5 +1,5 @@
 -- The top of a word, found from its base and the distance from B up to T.
-use Rattle.std.proofs.Common.{◌≡◌, ℕ, ◌+◌, ◌-◌, ◌*◌, ◌<◌, ◌≤◌, ◌%◌, ◌^◌, ◌∙◌, arith, inl, inr, bit_and}
+use Rattle.std.proofs.Common.{◌≡◌, ℕ, ◌+◌, ◌-◌, ◌*◌, ◌<◌, ◌≤◌, ◌%◌, ◌^◌, ◌∙◌, sym, arith, inl, inr, bit_and}
 use Rattle.std.proofs.Math.Nat.{mod-eq_of_lt}
 use Rattle.std.proofs.lemmas.Nat.{and_mask}
 use Rattle.std.proofs.lemmas.Bool.{cases_lt}
@@ -58,22 +58,42 @@ module _ (fields : Fields) (base length : ℕ) (is_base : IsDecodedBase fields b
       (stored_exponent-le fields) decoded.is_top.is_place.scaled mantissa_is in
       rw (decoded.is_top.is_top.large large ∙ kept, base_is) at decoded.is_top
 
--- the same, of numbers that are the base, the length and the exponent; the shift loses no bit
-pub small_top_shifted : (fields : Fields) (base length scale wide narrow shifted : ℕ) → IsDecodedBase fields base → length < 2 ^ 13
+-- the same, of numbers that are the base and the exponent; the shift loses no bit
+pub small_decodes : (fields : Fields) (base length scale wide shifted : ℕ) → IsDecodedBase fields base → length < 2 ^ 13
     → IsTopMantissa fields ((base_mantissa fields + length) % 2 ^ 14) → scale ≡ stored_exponent fields → scale < 51
-    → wide ≡ base → narrow ≡ length → shifted ≡ narrow * 2 ^ scale % 2 ^ 64 → IsDecodedTop fields base (wide + shifted)
-small_top_shifted fields base length scale wide narrow shifted is_base fits is_mantissa is_scale small is_wide is_narrow is_shifted =
+    → wide ≡ base → shifted ≡ length * 2 ^ scale % 2 ^ 64 → DecodesTo fields (record { base = base; top = wide + shifted })
+small_decodes fields base length scale wide shifted is_base fits is_mantissa is_scale small is_wide is_shifted =
     let small_exponent : stored_exponent fields < 51 = rw is_scale at small in
     let bytes_fit = length-fits (stored_exponent fields) length fits small_exponent in
     let kept : length * 2 ^ stored_exponent fields % 2 ^ 64 ≡ length * 2 ^ stored_exponent fields = mod-eq_of_lt (omega (arith, bytes_fit)) in
-    rw (is_wide, is_shifted, is_narrow, is_scale, kept) (small_top fields base length is_base fits is_mantissa small_exponent)
+    record { is_base = is_base; is_top = rw (is_wide, is_shifted, is_scale, kept) (small_top fields base length is_base fits is_mantissa small_exponent) }
 
--- the same from exponent 51 up: the mask keeps 65 bits of the shifted sum
-pub large_top_masked : (fields : Fields) (base length scale sum : ℕ) → IsDecodedBase fields base → length < 2 ^ 13
+-- from exponent 51 up the base has all bits of B that 64 bits can have
+pub large_base : (e low place : ℕ) → 51 ≤ e → e ≤ 52 → place % (8 * 2 ^ (e + 11)) ≡ low * 2 ^ e → place % 2 ^ 64 ≡ low * 2 ^ e % 2 ^ 64
+large_base e low place large small scaled =
+    elim (cases_lt e 52) [
+      | inl below ↦ let is : e ≡ 51 = omega arith in let at_51 = rw is at scaled in rw is (omega arith)
+      | inr above ↦ let is : e ≡ 52 = omega arith in let at_52 = rw is at scaled in rw is (omega arith)
+    ]
+
+-- the bounds from exponent 51 up: the mask keeps 65 bits of the shifted sum
+pub large_decodes : (fields : Fields) (length scale low sum : ℕ) → length < 2 ^ 13
     → IsTopMantissa fields ((base_mantissa fields + length) % 2 ^ 14) → scale ≡ stored_exponent fields → 51 ≤ scale
-    → sum ≡ base_mantissa fields + length
-    → IsDecodedTop fields base (bit_and (sum * 2 ^ scale % 2 ^ 128) (2 ^ 65 - 1))
-large_top_masked fields base length scale sum is_base fits is_mantissa is_scale large is_sum =
-    let top : ℕ = (base_mantissa fields + length) * 2 ^ stored_exponent fields in
+    → low ≡ base_mantissa fields → sum ≡ low + length
+    → DecodesTo fields (record { base = low * 2 ^ scale % 2 ^ 64; top = bit_and (sum * 2 ^ scale % 2 ^ 128) (2 ^ 65 - 1) })
+large_decodes fields length scale low sum fits is_mantissa is_scale large is_low is_sum =
+    let e : ℕ = stored_exponent fields in
+    let own = (one-span fields).has.is_base in
+    let large_exponent : 51 ≤ e = rw is_scale at large in
+    let base : IsDecodedBase fields (base_mantissa fields * 2 ^ e % 2 ^ 64) =
+    record {
+      place = own.place;
+      is_place = own.is_place;
+      kept = sym (large_base e (base_mantissa fields) own.place large_exponent (stored_exponent-le fields) own.is_place.scaled);
+    } in
+    let top : ℕ = (base_mantissa fields + length) * 2 ^ e in
     let kept : top % 2 ^ 128 % 2 ^ 65 ≡ top % 2 ^ 65 = omega arith in
-    rw (and_mask _ 65, is_sum, is_scale, kept) (large_top fields base length is_base fits is_mantissa (rw is_scale at large))
+    record {
+      is_base = rw (is_low, is_scale) base;
+      is_top = rw (and_mask _ 65, is_sum, is_low, is_scale, kept) (large_top fields _ length base fits is_mantissa large_exponent);
+    }

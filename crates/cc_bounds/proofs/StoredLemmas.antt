@@ -1,9 +1,9 @@
 -- The span that a word decodes to is stored in the word's own fields, if every bit of them counts.
 use Rattle.std.proofs.Common.{◌≡◌, ℕ, suc, ◌+◌, ◌-◌, ◌*◌, ◌<◌, ◌≤◌, ◌/◌, ◌%◌, ◌^◌, Bool, true, false, refl, sym, ◌∙◌, ap, subst, arith, inl, inr}
-use Rattle.std.specs.Prelude.{◌↔◌}
-use Rattle.std.proofs.Math.Nat.{mul-le-mul_right, lt_of_mul-lt-mul_right, lt-div-mul-add, div-eq_of_lt, mul-mod_left, pow-suc}
+use Rattle.std.specs.Prelude.{◌↔◌, min, if◌then◌else◌}
+use Rattle.std.proofs.Math.Nat.{mul-le-mul_right, mul-mod_left, pow-suc}
 use Rattle.std.proofs.Math.Pow.{pow_mono, mod-mod-pow, mod-pow-add}
-use Rattle.std.proofs.lemmas.Nat.{pow_pos, pow-add, shl-shr}
+use Rattle.std.proofs.lemmas.Nat.{pow_pos, shl-shr}
 use Rattle.std.proofs.lemmas.Bool.{cases_lt}
 use Rattle.cc_word.specs.Word.{bit_of}
 use Rattle.cc_word.specs.declared.fields.Fields.{Fields}
@@ -11,11 +11,12 @@ use Rattle.cc_bounds.specs.declared.span.Span.{Span}
 use Rattle.cc_bounds.specs.Span.{IsSpan, length_of}
 use Rattle.cc_bounds.specs.Granule.{granule_count, IsExponent, exponent_of}
 use Rattle.cc_bounds.specs.Encoding.{HasBoundsFields, StoresSpan, IsEncoding, ie_of}
-use Rattle.cc_bounds.specs.Decoding.{stored_exponent, base_mantissa, exponent_digits, DecodesTo, EveryBitCounts}
+use Rattle.cc_bounds.specs.Decoding.{stored_exponent, base_mantissa, exponent_digits, IsTopMantissa, DecodesTo, EveryBitCounts}
 use Rattle.cc_bounds.proofs.PlaceLemmas.{units_lt, stored_exponent-le}
 use Rattle.cc_bounds.proofs.StandingLemmas.{mantissa_length, mantissa_length-fits, base_mantissa-fits, standing}
 use Rattle.cc_bounds.proofs.DecodedSpanLemmas.{top-above, length-fits, word_short}
-use Rattle.cc_bounds.proofs.DecodedTopLemmas.{mantissa_kept}
+use Rattle.cc_bounds.proofs.DecodedTopLemmas.{mantissa_kept, large_base}
+use Rattle.cc_bounds.proofs.DecodingLemmas.{IsTopMantissa-same}
 use Rattle.cc_bounds.proofs.GranuleLemmas.{granule_count-covered, granule_count-many, IsLeastExponent, first-least, least-exponent}
 use Rattle.cc_bounds.proofs.EncodingLemmas.{granule-units, sound-long, sound-fit}
 use Rattle.cc_bounds.proofs.ComputingLemmas.{exponent_of-is, bounds_fields-are}
@@ -260,65 +261,108 @@ stored_law fields span decoded = (
 
 -- ---- as it is tested
 
--- of B's bits that are not the exponent's none is dropped, exactly if B is below 2 ^ 64
-pub base_dropped : (fields : Fields) (scale : ℕ) → scale ≡ stored_exponent fields
-    → (fields.b / 8 / 2 ^ (61 - scale) ≡ 0) ↔ (base_mantissa fields * 2 ^ stored_exponent fields < 2 ^ 64)
-base_dropped fields scale is = subst (λ (n : ℕ). Same n) (sym is) (by_ie fields.ie refl)
+-- what a span at an exponent of at least 51 has if it is stored
+abbrev Counts : (digits e low base top : ℕ) → Type 0
+Counts digits e low base top = (digits ≤ 52) × (low * 2 ^ e < 2 ^ 64) × (base ≤ top) × (top ≤ 2 ^ 64)
+
+-- in units: the length alone is more than half of the 64 bits, so that T decides
+large_fits : (digits e low length base top : ℕ) → 51 ≤ digits → e ≡ min 52 digits → low < 2 ^ 14 → 2 ^ 12 ≤ length
+    → length < 2 ^ 13 → base ≡ low * 2 ^ e % 2 ^ 64 → top ≡ (low + length) * 2 ^ e % 2 ^ 65
+    → (low + length ≤ 2 ^ (64 - digits)) ↔ Counts digits e low base top
+large_fits digits e low length base top large is_e low_fits from fits is_base is_top =
+    elim (cases_lt digits 53) [
+      | inl counts ↦ elim (cases_lt digits 52) [
+        | inl below ↦
+            let d : digits ≡ 51 = omega arith in
+            let is : e ≡ 51 = omega (arith, is_e, d) in
+            let b = rw is at is_base in
+            let t = rw is at is_top in
+            rw (d, is) (
+              λ h. (omega arith, omega (arith, h), omega (arith, h, b, t), omega (arith, h, t)),
+              λ all. let l = all.1 in omega (arith, l, b, t),
+            )
+        | inr above ↦
+            let d : digits ≡ 52 = omega arith in
+            let is : e ≡ 52 = omega (arith, is_e, d) in
+            let b = rw is at is_base in
+            let t = rw is at is_top in
+            rw (d, is) (
+              λ h. (omega arith, omega (arith, h), omega (arith, h, b, t), omega (arith, h, t)),
+              λ all. let l = all.1 in omega (arith, l, b, t),
+            )
+      ]
+      | inr more ↦
+          let few : 64 - digits ≤ 11 = omega arith in
+          let power = pow_mono few in
+          (λ h. absurd (omega (arith, h, power, from)), λ all. let d = all.0 in absurd (omega (arith, d, more)))
+    ]
+
+-- from exponent 51 up T alone decides
+pub large-stored : (fields : Fields) (span : Span) (field length : ℕ) → DecodesTo fields span
+    → field ≡ (if fields.ie then exponent_digits fields else 0) → 51 ≤ field → length < 2 ^ 13
+    → IsTopMantissa fields ((base_mantissa fields + length) % 2 ^ 14)
+    → (base_mantissa fields + length ≤ 2 ^ (64 - field)) ↔ StoresSpan fields span
+large-stored fields span field length decoded is_field large fits is_mantissa = by_ie fields.ie refl
   where
-    Same : ℕ → Type 0
-    Same n = (fields.b / 8 / 2 ^ (61 - n) ≡ 0) ↔ (base_mantissa fields * 2 ^ stored_exponent fields < 2 ^ 64)
+    e : ℕ
+    e = stored_exponent fields
 
-    by_ie : (ie : Bool) → fields.ie ≡ ie → Same (stored_exponent fields)
+    by_ie : (ie : Bool) → fields.ie ≡ ie → (base_mantissa fields + length ≤ 2 ^ (64 - field)) ↔ StoresSpan fields span
+    by_ie false is_ie = let none = rw is_ie at is_field in absurd (omega (arith, none, large))
     by_ie true is_ie =
-        let e : ℕ = stored_exponent fields in
-        let g : ℕ = 2 ^ (61 - e) in
+        let digits : field ≡ exponent_digits fields = rw is_ie at is_field in
+        let is_e : e ≡ min 52 (exponent_digits fields) = rw is_ie refl in
+        let is_large : 51 ≤ e = omega (arith, is_e, digits, large) in
         let small = stored_exponent-le fields in
-        let sum : 61 - e + (e + 3) ≡ 64 = omega (arith, small) in
-        let whole : g * 2 ^ (e + 3) ≡ 2 ^ 64 = sym (pow-add 2 (61 - e) (e + 3)) ∙ ap (λ (n : ℕ). 2 ^ n) sum in
-        let b_is : base_mantissa fields ≡ fields.b - fields.b % 8 = rw is_ie refl in
-        let eight : base_mantissa fields ≡ 8 * (fields.b / 8) = omega (arith, b_is) in
-        let bytes : base_mantissa fields * 2 ^ e ≡ fields.b / 8 * 2 ^ (e + 3) =
-        ap (λ (n : ℕ). n * 2 ^ e) eight ∙ sym (granule-units (fields.b / 8) e) in (
-          λ none.
-              let above = lt-div-mul-add {a = fields.b / 8} (pow_pos (61 - e)) in
-              let nothing = ap (λ (n : ℕ). n * g) none in
-              let below : fields.b / 8 < g = omega (arith, above, nothing) in
-              let scaled = units_lt (fields.b / 8) g (2 ^ (e + 3)) 0 below (pow_pos (e + 3)) in
-              omega (arith, scaled, whole, bytes),
-          λ fits.
-              let less : fields.b / 8 * 2 ^ (e + 3) < g * 2 ^ (e + 3) = omega (arith, fits, whole, bytes) in
-              div-eq_of_lt (lt_of_mul-lt-mul_right (2 ^ (e + 3)) less),
+        let low_fits = base_mantissa-fits fields in
+        let implied : ((base_mantissa fields + length) % 2 ^ 14 + 2 ^ 14 - base_mantissa fields) % 2 ^ 14 / 2 ^ 12 ≡ 1 =
+        is_mantissa.implied ∙ ap bit_of is_ie in
+        let from : 2 ^ 12 ≤ length = omega (arith, implied, fits, low_fits) in
+        let base = decoded.is_base.kept ∙ large_base e (base_mantissa fields) decoded.is_base.place is_large small decoded.is_base.is_place.scaled in
+        let top =
+        decoded.is_top.is_top.large is_large
+        ∙ mantissa_kept e decoded.is_top.mantissa (base_mantissa fields + length) decoded.is_top.place is_large small
+        decoded.is_top.is_place.scaled (IsTopMantissa-same fields decoded.is_top.mantissa _ decoded.is_top.is_mantissa is_mantissa) in
+        let both =
+        large_fits (exponent_digits fields) e (base_mantissa fields) length span.base span.top (omega (arith, digits, large)) is_e low_fits
+        from fits base top in
+        let law = stored_law fields span decoded in
+        let base_fits : span.base < 2 ^ 64 = let kept = decoded.is_base.kept in omega (arith, kept) in
+        rw digits (
+          λ h.
+              let all = both.0 h in
+              law.1 (record { in_order = all.2; base_fits = base_fits; top_fits = all.3 }, record { digits = λ _. all.0; base = all.1 }),
+          λ stores.
+              let own = law.0 stores in
+              both.1 (own.1.digits is_ie, own.1.base, own.0.in_order, own.0.top_fits),
         )
-    by_ie false is_ie =
-        let fits = fields.b_fits in
-        let zero_is : stored_exponent fields ≡ 0 = rw is_ie refl in
-        let b_is : base_mantissa fields ≡ fields.b = rw is_ie refl in
-        let none : fields.b / 8 / 2 ^ (61 - stored_exponent fields) ≡ 0 = rw zero_is (omega (arith, fits)) in
-        let bytes : base_mantissa fields * 2 ^ stored_exponent fields < 2 ^ 64 = rw (zero_is, b_is) (omega (arith, fits)) in
-        (λ _. bytes, λ _. none)
 
--- below exponent 51 the top alone decides
+-- below exponent 51 a span has less than 2 ^ 63 bytes
+pub small-short : (fields : Fields) (span : Span) → DecodesTo fields span → stored_exponent fields < 51
+    → (span.base ≤ span.top) × (span.top < span.base + 2 ^ 63)
+small-short fields span decoded small =
+    let place = standing fields span decoded in
+    let length : ℕ = mantissa_length (base_mantissa fields) decoded.is_top.mantissa in
+    let fits = length-fits (stored_exponent fields) length
+    (mantissa_length-fits fields decoded.is_top.mantissa decoded.is_top.is_mantissa) small in
+    let beside = rw place.top_is at decoded.is_top.is_top in
+    let above =
+    top-above (stored_exponent fields) span.base decoded.is_base.place (length * 2 ^ stored_exponent fields) span.top small
+    fits decoded.is_base.kept beside in
+    (omega (arith, above), omega (arith, above, fits))
+
+-- there the top alone decides
 pub small-stored : (fields : Fields) (span : Span) → DecodesTo fields span → stored_exponent fields < 51
     → (span.top ≤ 2 ^ 64) ↔ StoresSpan fields span
 small-stored fields span decoded small = (
-  λ fits. every-stored fields span decoded (record { in_order = order; base_fits = base_fits; top_fits = fits }) counts,
+  λ fits.
+      let order = (small-short fields span decoded small).0 in
+      every-stored fields span decoded (record { in_order = order; base_fits = base_fits; top_fits = fits }) counts,
   λ h. h.is_span.top_fits,
 )
   where
     base_fits : span.base < 2 ^ 64
     base_fits = let kept = decoded.is_base.kept in omega (arith, kept)
-
-    order : span.base ≤ span.top
-    order =
-        let place = standing fields span decoded in
-        let length : ℕ = mantissa_length (base_mantissa fields) decoded.is_top.mantissa in
-        let fits = length-fits (stored_exponent fields) length
-        (mantissa_length-fits fields decoded.is_top.mantissa decoded.is_top.is_mantissa) small in
-        let beside = rw place.top_is at decoded.is_top.is_top in
-        let above =
-        top-above (stored_exponent fields) span.base decoded.is_base.place (length * 2 ^ stored_exponent fields) span.top small
-        fits decoded.is_base.kept beside in
-        omega (arith, above)
 
     counts : EveryBitCounts fields
     counts =

@@ -7,7 +7,7 @@ ghost use Rattle.cc_bounds.specs.Decoding.{DecodesTo};
 ghost use Rattle.cc_bounds.specs.declared.span.Span.{Span as SpanSpec};
 ghost use Rattle.cc_bounds.specs.Tightest.{DecodesBack, IsTight, IsTightest};
 
-use crate::decoding::{FIRST_LARGE_EXPONENT, decode, every_bit_counts, exponent};
+use crate::decoding::{FIRST_LARGE_EXPONENT, decode, exponent, exponent_field, large_stores};
 use crate::rounding::{granule_power, rounded};
 use crate::span::{ADDRESS_SPACE, Span};
 use cc_word::Fields;
@@ -172,18 +172,23 @@ impl Set {
     }
 }
 
-/// Returns whether a base and a top form a span of the address space.
-fn is_span(span: &Span) -> bool
-    ensures { IsTrue result ↔ IsSpan span.now }
+/// Returns whether the bounds end at 2^64 or below, by numbers of 64 bits alone.
+///
+/// Requires: they have fewer than 2^64 bytes.
+#[inline(always)]
+fn ends_in_space(bounds: &Span) -> bool
+    requires base_fits { bounds.now.base < 2 ^ 64 }
+    requires in_order { bounds.now.base ≤ bounds.now.top }
+    requires short { bounds.now.top < bounds.now.base + 2 ^ 64 }
+    ensures { IsTrue result ↔ (bounds.now.top ≤ 2 ^ 64) }
 {
-    u128::from(span.base) <= span.top && span.top <= ADDRESS_SPACE
+    // the distance from the first byte to the last, or 0 for no byte
+    let distance = (bounds.len() as u64).saturating_sub(1);
+    distance <= u64::MAX - bounds.base
 }
 
 /// Returns whether the fields store the bounds that they decode to: a word with these bounds fields
 /// is canonical in all but its reserved bits and its type.
-///
-/// Below exponent 51, only the top is tested: it is never below the base, and every bit of the
-/// bounds fields counts.
 ///
 /// Requires: the fields decode to `bounds`.
 #[inline(always)]
@@ -191,10 +196,10 @@ pub fn stores(fields: &Fields, bounds: &Span) -> bool
     requires { DecodesTo fields.now bounds.now }
     ensures { IsTrue result ↔ StoresSpan fields.now bounds.now }
 {
-    if exponent(fields) < FIRST_LARGE_EXPONENT {
-        bounds.top <= ADDRESS_SPACE
+    if exponent_field(fields) < FIRST_LARGE_EXPONENT {
+        ends_in_space(bounds)
     } else {
-        is_span(bounds) && every_bit_counts(fields)
+        large_stores(fields)
     }
 }
 

@@ -10,13 +10,13 @@ use Rattle.cc_bounds.proofs.StandingLemmas.{base_mantissa-fits}
 use Rattle.cc_bounds.proofs.decoding.mantissa_length.Goals as goal
 
 -- the bit above 12 bits, as a sum
-joined : (ie : Bool) (bit sum : ℕ) → bit ≡ bool_byte ie → bit_or (bit * 4096 % 65536) (bit_and sum 4095) ≡ bit_of ie * 4096 + sum % 4096
+joined : (ie : Bool) (bit sum : ℕ) → bit ≡ bool_byte ie → bit_or (bit * 4096 % 18446744073709551616) (bit_and sum 4095) ≡ bit_of ie * 4096 + sum % 4096
 joined true bit sum is_bit =
     let low = and_mask sum 12 in
-    let sum_is = or_after_shift bit 4096 65536 (bit_and sum 4095) refl (omega (arith, low)) (omega arith) in omega (arith, sum_is, low)
+    let sum_is = or_after_shift bit 4096 18446744073709551616 (bit_and sum 4095) refl (omega (arith, low)) (omega arith) in omega (arith, sum_is, low)
 joined false bit sum is_bit =
     let low = and_mask sum 12 in
-    let sum_is = or_after_shift bit 4096 65536 (bit_and sum 4095) refl (omega (arith, low)) (omega arith) in omega (arith, sum_is, low)
+    let sum_is = or_after_shift bit 4096 18446744073709551616 (bit_and sum 4095) refl (omega (arith, low)) (omega arith) in omega (arith, sum_is, low)
 
 -- a bit is at most one
 bit_small : (ie : Bool) → bit_of ie ≤ 1
@@ -27,9 +27,9 @@ bit_small false = omega arith
 top_mantissa : (fields : Fields) (top base bit : ℕ) → top ≡ without_exponent fields.ie fields.t → base ≡ base_mantissa fields
     → bit ≡ bool_byte fields.ie
     → IsTopMantissa fields
-    ((base_mantissa fields + bit_or (bit * 4096 % 65536) (bit_and ((top + (65536 - base)) % 65536) 4095)) % 2 ^ 14)
+    ((base_mantissa fields + bit_or (bit * 4096 % 18446744073709551616) (bit_and ((top + (18446744073709551616 - base)) % 18446744073709551616) 4095)) % 2 ^ 14)
 top_mantissa fields top base bit is_top is_base is_bit =
-    let sum : ℕ = (top + (65536 - base)) % 65536 in
+    let sum : ℕ = (top + (18446744073709551616 - base)) % 18446744073709551616 in
     let is = joined fields.ie bit sum is_bit in
     let small = bit_small fields.ie in
     let low = base_mantissa-fits fields in
@@ -48,7 +48,7 @@ returns-clause-top c =
 
 pub returns-clause-fits : goal.returns-clause-fits
 returns-clause-fits c =
-    let sum : ℕ = (c.without_exponent-top.result + (65536 - c.base_mantissa.result)) % 65536 in
+    let sum : ℕ = (c.without_exponent-top.result + (18446744073709551616 - c.base_mantissa.result)) % 18446744073709551616 in
     let is = joined c.args.fields.now.ie c.from.result sum c.from.ensures in
     let small = bit_small c.args.fields.now.ie in
     omega (arith, is, small)

@@ -1,18 +1,23 @@
 use Rattle.std.proofs.Common.{◌<◌, arith}
 use Rattle.cc_bounds.specs.Decoding.{stored_exponent}
-use Rattle.cc_bounds.proofs.StoredLemmas.{small-stored, stored_law}
+use Rattle.cc_bounds.proofs.StoredLemmas.{small-short, small-stored}
 use Rattle.cc_bounds.proofs.encoding.stores.Goals as goal
 
-pub returns-then-exponent-lt-FIRST_LARGE_EXPONENT :
-    goal.returns-then-exponent-lt-FIRST_LARGE_EXPONENT
-returns-then-exponent-lt-FIRST_LARGE_EXPONENT c =
+pub ends_in_space-requires : goal.ends_in_space-requires
+ends_in_space-requires c =
     let fields = c.args.fields.now in
-    let small : stored_exponent fields < 51 = omega (arith, c.exponent.ensures, c.if-exponent-lt-FIRST_LARGE_EXPONENT.true) in
-    let law = small-stored fields c.args.bounds.now c.requires small in
-    (λ yes. law.0 (grind (arith, yes)), λ stores. let fits = law.1 stores in grind (arith, fits))
+    let small : stored_exponent fields < 51 =
+    omega (arith, c.exponent_field.ensures.capped, c.if-exponent_field-lt-FIRST_LARGE_EXPONENT.true) in
+    let both = small-short fields c.args.bounds.now c.requires small in
+    record { base_fits = omega (arith); in_order = both.0; short = omega (arith, both.1) }
 
-pub returns-then-is_span : goal.returns-then-is_span
-returns-then-is_span c =
-    let law = stored_law c.args.fields.now c.args.bounds.now c.requires in
-    let counts = c.every_bit_counts.ensures in
-    (λ yes. law.1 (c.is_span.ensures.0 c.if-is_span.true, counts.0 yes), λ stores. counts.1 (law.0 stores).1)
+pub returns-then-exponent_field-lt-FIRST_LARGE_EXPONENT : goal.returns-then-exponent_field-lt-FIRST_LARGE_EXPONENT
+returns-then-exponent_field-lt-FIRST_LARGE_EXPONENT c =
+    let fields = c.args.fields.now in
+    let small : stored_exponent fields < 51 =
+    omega (arith, c.exponent_field.ensures.capped, c.if-exponent_field-lt-FIRST_LARGE_EXPONENT.true) in
+    let law = small-stored fields c.args.bounds.now c.requires small in
+    (λ yes. law.0 (c.ends_in_space.ensures.0 yes), λ stores. c.ends_in_space.ensures.1 (law.1 stores))
+
+pub returns-else-exponent_field-lt-FIRST_LARGE_EXPONENT : goal.returns-else-exponent_field-lt-FIRST_LARGE_EXPONENT
+returns-else-exponent_field-lt-FIRST_LARGE_EXPONENT c = c.large_stores.ensures c.args.bounds.now c.requires
