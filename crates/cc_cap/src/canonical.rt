@@ -3,6 +3,7 @@ ghost use Rattle.std.specs.Prelude.{◌↔◌, IsTrue};
 ghost use Rattle.cc_cap.specs.Canonical.{IsCanonical};
 
 use crate::cap::Cap;
+use cc_word::Refusal;
 
 /// Returns whether the word is canonical: the word of some capability, sealed or not.
 ///
@@ -13,7 +14,10 @@ use crate::cap::Cap;
 pub fn is_canonical(word: u128) -> bool
     ensures { IsTrue result ↔ IsCanonical word }
 {
-    Cap::of_word(word).is_some()
+    match Cap::of_unsealed_word(word) {
+        Ok(_) => true,
+        Err(refusal) => refusal == Refusal::Sealed,
+    }
 }
 
 /// The first of these reasons that applies to a word that is not canonical.

@@ -56,6 +56,7 @@ pub fn increment(word: u128, amount: u64) -> Result<u128, Refusal>
 ///
 /// Errors, in order: `NotCanonical`; `Sealed`; `OutOfBounds`.
 /// Instruction: CSetBounds.
+#[inline(always)]
 pub fn set_bounds(word: u128, len: u128) -> Result<u128, Refusal>
     ensures made { OnWord (λ cap. SetsBounds cap len) word result }
 {
@@ -72,6 +73,7 @@ pub fn set_bounds(word: u128, len: u128) -> Result<u128, Refusal>
 ///
 /// Errors, in order: `NotCanonical`; `Sealed`; `OutOfBounds`; `Inexact`.
 /// Instruction: CSetBoundsExact.
+#[inline(always)]
 pub fn set_bounds_exact(word: u128, len: u128) -> Result<u128, Refusal>
     ensures made { OnWord (λ cap. SetsExactBounds cap len) word result }
 {

@@ -72,6 +72,7 @@ pub extern "C" fn cheri_cap_increment(high: u64, low: u64, amount: u64) -> MadeW
 ///
 /// Errors, in order: `NotCanonical`; `Sealed`; `OutOfBounds`.
 /// Instruction: CSetBounds.
+#[inline(always)]
 #[unsafe(no_mangle)]
 pub extern "C" fn cheri_cap_set_bounds_on(
     high: u64,
@@ -96,6 +97,7 @@ pub extern "C" fn cheri_cap_set_bounds_on(
 ///
 /// Errors, in order: `NotCanonical`; `Sealed`; `OutOfBounds`; `Inexact`.
 /// Instruction: CSetBoundsExact.
+#[inline(always)]
 #[unsafe(no_mangle)]
 pub extern "C" fn cheri_cap_set_bounds_exact_on(
     high: u64,
