@@ -1,32 +1,35 @@
-//! A word with its fields and its bounds.
+//! A word with its fields, its exponent and its bounds.
 ghost use Rattle.std.specs.Prelude.{◌≡◌, ◌↔◌, IsTrue, MatchOption};
 ghost use Rattle.cc_word.specs.Word.{word_of};
 ghost use Rattle.cc_word.specs.ObjType.{IsObjType};
 ghost use Rattle.cc_word.specs.declared.fields.Fields.{Fields as FieldsSpec};
-ghost use Rattle.cc_bounds.specs.Decoding.{DecodesTo};
+ghost use Rattle.cc_bounds.specs.Decoding.{DecodesTo, stored_exponent};
 ghost use Rattle.cc_bounds.specs.declared.span.Span.{Span as SpanSpec};
 ghost use Rattle.cc_cap.specs.Canonical.{IsCanonical};
 ghost use Rattle.cc_cap.specs.Defect.{HasDefect};
 
 use crate::canonical::Defect;
-use cc_bounds::{ADDRESS_SPACE, Span, decode, stores};
+use cc_bounds::{ADDRESS_SPACE, Span, decode, exponent, stores};
 use cc_word::{Fields, ObjType, unpack};
 
-/// A decoded word: its fields, and the bounds that they decode to.
+/// A decoded word: its fields, and the exponent and the bounds that they decode to.
 ///
 /// Its methods do not decode the word again.
 #[derive(Clone, Copy)]
 pub struct Decoded {
     /// The fields of the word.
     pub fields: Fields,
+    /// The exponent, from 0 to 52.
+    pub exponent: u8,
     /// The bounds that the fields decode to.
     pub bounds: Span,
+    pub ghost is_exponent: { exponent ≡ stored_exponent fields },
     pub ghost decodes: { (span : SpanSpec) → DecodesTo fields span → (span.base ≡ bounds.base)
         × (span.top ≡ bounds.top) },
 }
 
 impl Decoded {
-    /// Returns the fields and the bounds of a word.
+    /// Returns the fields, the exponent and the bounds of a word.
     #[inline(always)]
     pub fn of_word(word: u128) -> Decoded
         ensures word { word_of result.fields ≡ word }
@@ -35,8 +38,11 @@ impl Decoded {
         ensures only_bounds { (span : SpanSpec) → DecodesTo result.fields span → span ≡ result.bounds }
     {
         let fields = unpack(word);
-        let bounds = decode(&fields);
-        Decoded { fields, bounds }
+        Decoded {
+            fields,
+            exponent: exponent(&fields),
+            bounds: decode(&fields),
+        }
     }
 
     /// Returns whether the word is canonical: the word of some capability, sealed or not.

@@ -13,7 +13,8 @@ ghost use Rattle.cc_word.specs.declared.fields.Fields.{Fields as FieldsSpec};
 
 use crate::halves::{halves, number};
 use crate::structs::{Bounds, GrantedBounds};
-use cc_bounds::{ADDRESS_SPACE, Set, decode, exponent, keeps_bounds, represents, set_bounds};
+use cc_bounds::{ADDRESS_SPACE, Set, exponent, keeps_bounds, represents, set_bounds};
+use cc_cap::Decoded;
 use cc_word::unpack;
 
 /// Returns the base, the top and the exponent of any word.
@@ -21,14 +22,13 @@ use cc_word::unpack;
 pub extern "C" fn cheri_cap_decode(high: u64, low: u64) -> Bounds
     ensures { OfFields (number_of_halves high low) (λ fields. AreDecoded fields result) }
 {
-    let fields = unpack(number(high, low));
-    let span = decode(&fields);
-    let top = halves(span.top);
+    let decoded = Decoded::of_word(number(high, low));
+    let top = halves(decoded.bounds.top);
     Bounds {
-        base: span.base,
+        base: decoded.bounds.base,
         top_high: top.high,
         top_low: top.low,
-        exponent: exponent(&fields),
+        exponent: decoded.exponent,
     }
 }
 

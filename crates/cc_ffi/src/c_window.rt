@@ -9,8 +9,7 @@ ghost use Rattle.cc_bounds.specs.Window.{IsRepresentable};
 
 use crate::halves::number;
 use crate::structs::Window;
-use cc_bounds::{decode, exponent};
-use cc_word::unpack;
+use cc_cap::Decoded;
 
 /// The smallest exponent at which every address is in the window.
 const FIRST_WITHOUT_END: u8 = 50;
@@ -53,6 +52,6 @@ pub extern "C" fn cheri_cap_window(high: u64, low: u64) -> Window
     ensures large { OfFields (number_of_halves high low)
         (λ fields. 50 ≤ stored_exponent fields → IsEveryAddress result) }
 {
-    let fields = unpack(number(high, low));
-    window_of(decode(&fields).base, exponent(&fields))
+    let decoded = Decoded::of_word(number(high, low));
+    window_of(decoded.bounds.base, decoded.exponent)
 }

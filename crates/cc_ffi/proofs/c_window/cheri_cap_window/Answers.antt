@@ -7,8 +7,8 @@ use Rattle.cc_ffi.proofs.c_window.cheri_cap_window.Goals as goal
 
 pub returns-clause-window : goal.returns-clause-window
 returns-clause-window c fields has span address decodes fits =
-    let same = c.unpack-fields.ensures.only fields (has ∙ sym c.number.ensures) in
-    let found = c.decode.ensures.only span (subst (λ (f : Fields). DecodesTo f span) same decodes) in
-    own_window fields c.unpack-fields.result span c.decode.result c.exponent.result address
-    (IsFromTo c.window_of.result.first c.window_of.result.last address) same found c.exponent.ensures
+    let same = c.of_word-decoded.ensures.only_fields fields (has ∙ sym c.number.ensures) in
+    let found = c.of_word-decoded.ensures.only_bounds span (subst (λ (f : Fields). DecodesTo f span) same decodes) in
+    own_window fields c.of_word-decoded.result.fields span c.of_word-decoded.result.bounds c.of_word-decoded.result.exponent address
+    (IsFromTo c.window_of.result.first c.window_of.result.last address) same found c.of_word-decoded.result.is_exponent
     (c.window_of.ensures.window address fits)
