@@ -3,7 +3,6 @@ ghost use Rattle.std.specs.Prelude.{◌↔◌, IsTrue};
 ghost use Rattle.cc_cap.specs.Canonical.{IsCanonical};
 
 use crate::cap::Cap;
-use cc_word::Refusal;
 
 /// Returns whether the word is canonical: the word of some capability, sealed or not.
 ///
@@ -14,10 +13,7 @@ use cc_word::Refusal;
 pub fn is_canonical(word: u128) -> bool
     ensures { IsTrue result ↔ IsCanonical word }
 {
-    match Cap::of_unsealed_word(word) {
-        Ok(_) => true,
-        Err(refusal) => refusal == Refusal::Sealed,
-    }
+    Cap::of_word(word).is_some()
 }
 
 /// The first of these reasons that applies to a word that is not canonical.
