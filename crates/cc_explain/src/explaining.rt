@@ -57,7 +57,7 @@ pub fn push_explained_word(text: &mut Text, word: u128)
     ensures { IsWordExplanation word text.new }
 {
     let decoded = Decoded::of_word(word);
-    let steps = decoding_steps(&decoded.fields);
+    let steps = decoding_steps(&decoded);
     let rows = rows_of(&decoded.fields, &steps);
     push_fields(text, word, &decoded.fields);
     push_mantissas(text, &decoded.fields, &steps);

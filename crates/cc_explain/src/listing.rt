@@ -32,7 +32,6 @@ ghost use Rattle.cc_explain.specs.Listing.{
 ghost use Rattle.cc_io.specs.Permissions.{permissions_text};
 
 use bitflags::Flags;
-use cc_bounds::{Span, exponent};
 use cc_cap::{Decoded, Perms};
 use cc_io::{
     IoError, Line, MOST_TEXT, Sink, Summary, Text, push_permissions, push_refusal, write_and_flush,
@@ -87,16 +86,16 @@ pub fn push_listing(text: &mut Text, word: u128)
 {
     let decoded = Decoded::of_word(word);
     let canonical = decoded.is_canonical();
-    push_lines(text, word, &decoded.fields, &decoded.bounds, canonical);
+    push_lines(text, word, &decoded, canonical);
 }
 
-/// Appends all thirteen lines of a word with these fields and bounds.
-fn push_lines(text: &mut Text, word: u128, fields: &Fields, bounds: &Span, canonical: bool)
+/// Appends all thirteen lines of a decoded word.
+fn push_lines(text: &mut Text, word: u128, decoded: &Decoded, canonical: bool)
     requires { text.old ≡ [] }
-    ensures { text.new ≡ listing_of word fields.now bounds.now canonical }
+    ensures { text.new ≡ listing_of word decoded.now.fields decoded.now.bounds canonical }
 {
-    push_field_lines(text, word, fields);
-    push_bounds_lines(text, fields, bounds, canonical);
+    push_field_lines(text, word, &decoded.fields);
+    push_bounds_lines(text, decoded, canonical);
 }
 
 /// Appends the lines of a word and of its fields.
@@ -116,15 +115,15 @@ fn push_field_lines(text: &mut Text, word: u128, fields: &Fields)
     push_hexadecimal_line(text, b"address", u128::from(fields.address));
 }
 
-/// Appends the lines of the exponent and the bounds that the fields decode to, and of whether the
-/// word is canonical.
-fn push_bounds_lines(text: &mut Text, fields: &Fields, bounds: &Span, canonical: bool)
+/// Appends the lines of the exponent and the bounds of a decoded word, and of whether it is
+/// canonical.
+fn push_bounds_lines(text: &mut Text, decoded: &Decoded, canonical: bool)
     requires { length text.old + 143 ≤ MOST_TEXT }
-    ensures { text.new ≡ text.old ++ bounds_lines_of fields.now bounds.now canonical }
+    ensures { text.new ≡ text.old ++ bounds_lines_of decoded.now.fields decoded.now.bounds canonical }
 {
-    push_decimal_line(text, b"exponent", u128::from(exponent(fields)));
-    push_hexadecimal_line(text, b"base", u128::from(bounds.base));
-    push_hexadecimal_line(text, b"top", bounds.top);
+    push_decimal_line(text, b"exponent", u128::from(decoded.exponent));
+    push_hexadecimal_line(text, b"base", u128::from(decoded.bounds.base));
+    push_hexadecimal_line(text, b"top", decoded.bounds.top);
     push_canonical_line(text, canonical);
 }
 

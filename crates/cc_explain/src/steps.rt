@@ -1,11 +1,11 @@
 //! The intermediate results of decoding, from the fields of a word to its bounds.
 ghost use Rattle.std.specs.Prelude.{◌≡◌, ◌*◌, ◌+◌, ◌<◌, ◌≤◌, ◌^◌};
-ghost use Rattle.cc_bounds.specs.Decoding.{IsPlaced, IsTopMantissa, IsWindow, base_mantissa, first_section};
+ghost use Rattle.cc_bounds.specs.Decoding.{IsPlaced, IsTopMantissa, IsWindow, base_mantissa, first_section, stored_exponent};
 ghost use Rattle.cc_bounds.specs.Window.{section_of};
 ghost use Rattle.cc_explain.specs.Steps.{AreSteps};
 ghost use Rattle.cc_explain.specs.declared.steps.TheConstants.{LAPS};
 
-use cc_bounds::exponent;
+use cc_cap::Decoded;
 use cc_word::Fields;
 
 /// Four times the size of the address space: 2^66. It raises numbers that could be below zero.
@@ -31,21 +31,24 @@ pub struct Steps {
     pub top: u128,
 }
 
-/// Returns the steps of decoding these fields. There are no other such steps.
-pub fn decoding_steps(fields: &Fields) -> Steps
-    ensures { AreSteps fields.now result }
+/// Returns the steps of decoding a word. There are no other such steps.
+pub fn decoding_steps(decoded: &Decoded) -> Steps
+    ensures { AreSteps decoded.now.fields result }
 {
-    let b = base_mantissa(fields);
-    let t = top_mantissa(fields);
-    let start = window_start(fields);
+    let Decoded {
+        fields, exponent, ..
+    } = *decoded;
+    let b = base_mantissa(&fields);
+    let t = top_mantissa(&fields);
+    let start = window_start(&fields, exponent);
     Steps {
-        exponent: exponent(fields),
+        exponent,
         b,
         t,
-        first_section: first_section(fields),
+        first_section: first_section(&fields),
         start,
-        base: place(fields, start, b),
-        top: place(fields, start, t),
+        base: place(&fields, exponent, start, b),
+        top: place(&fields, exponent, start, t),
     }
 }
 
@@ -89,22 +92,23 @@ fn first_section(fields: &Fields) -> u16
 }
 
 /// Returns the start of the window that has the address in it, raised by [`LAPS`].
-fn window_start(fields: &Fields) -> u128
+fn window_start(fields: &Fields, exponent: u8) -> u128
+    requires { exponent ≡ stored_exponent fields.now }
     ensures { IsWindow fields.now result }
 {
-    let section = section(exponent(fields));
+    let section = section(exponent);
     let first = u128::from(first_section(fields)) * section;
     let address = u128::from(fields.address) + LAPS;
     address - (address - first) % (8 * section)
 }
 
 /// Returns the place of a mantissa in the window that begins at `start`.
-fn place(fields: &Fields, start: u128, mantissa: u16) -> u128
+fn place(fields: &Fields, exponent: u8, start: u128, mantissa: u16) -> u128
+    requires is_exponent { exponent ≡ stored_exponent fields.now }
     requires window { IsWindow fields.now start }
     requires fits { mantissa < 2 ^ 14 }
     ensures { IsPlaced fields.now mantissa result }
 {
-    let exponent = exponent(fields);
     let size = 8 * section(exponent);
     let scaled = u128::from(mantissa) * unit(exponent);
     start + (scaled + size - start % size) % size

@@ -39,13 +39,14 @@ ghost use Rattle.cc_explain.specs.WindowDrawing.{
 };
 
 use crate::steps::{LAPS, Steps, decoding_steps, section, unit};
-use cc_bounds::{Span, decode};
+use cc_bounds::Span;
+use cc_cap::Decoded;
 use cc_io::{
     IoError, MOST_TEXT, Sink, Summary, Text, end_with_decimal, end_with_hexadecimal, push_decimal,
     push_digits, push_hexadecimal, push_markup, push_opening, push_refusal, push_sheet,
     read_typed_word, write_and_flush,
 };
-use cc_word::{Fields, Refusal, unpack};
+use cc_word::{Fields, Refusal};
 
 /// Writes a drawing of the window of a word, and flushes the sink once after it.
 ///
@@ -93,10 +94,9 @@ pub fn push_window_drawing(text: &mut Text, word: u128)
     requires { text.old ≡ [] }
     ensures { IsWordDrawing word text.new }
 {
-    let fields = unpack(word);
-    let steps = decoding_steps(&fields);
-    let bounds = decode(&fields);
-    push_parts(text, word, &fields, &steps, &bounds);
+    let decoded = Decoded::of_word(word);
+    let steps = decoding_steps(&decoded);
+    push_parts(text, word, &decoded.fields, &steps, &decoded.bounds);
 }
 
 /// Appends all parts of the drawing.
