@@ -1,15 +1,14 @@
 -- The replies of a decoder are those to the whole entries.
-use Rattle.std.proofs.Common.{◌≡◌, ◌↔◌, ℕ, ◌<◌, Bool, List, [], ◌∷◌, length, take, refl, sym, ◌∙◌, ap, subst, not, ◌==◌, arith, length-take, inl, inr, Option, None, Some, IfSome}
+use Rattle.std.proofs.Common.{◌≡◌, ◌↔◌, ℕ, ◌<◌, Bool, true, List, [], ◌∷◌, length, take, refl, sym, ◌∙◌, ap, subst, not, ◌==◌, arith, length-take, inl, inr, Option, None, Some, IfSome}
 use Rattle.std.specs.Prelude.{IsSome}
 use Rattle.std.proofs.lemmas.Bool.{cases_lt}
 use Rattle.std.proofs.lemmas.List.{take_all}
 use Rattle.std.proofs.Math.Dec.{eqb-suc-zero}
-use Rattle.cc_io.specs.Text.{rest_text}
 use Rattle.cc_io.specs.Answers.{Answer, AnswersAll, EndsWith, Relation, seen}
 use Rattle.cc_decode.specs.Input.{IsWordEntry, word_of_entry}
-use Rattle.cc_decode.specs.Output.{IsAnswer, IsWordAnswer, AreAnswers}
+use Rattle.cc_decode.specs.Output.{IsAnswer, IsEnding, IsUnfinished, IsWordAnswer, AreAnswers}
 use Rattle.cc_decode.specs.Place.{after_entry, options_after}
-use Rattle.cc_decode.specs.Decoder.{AnswersEntry, AnswersPlainly, IsEntryReply, RefusesUnfinished, plain_options}
+use Rattle.cc_decode.specs.Decoder.{AnswersEntry, AnswersPlainly, IsEntryReply, plain_options}
 use Rattle.cc_decode.specs.declared.decoder.Decoder.{Decoder}
 use Rattle.cc_io.specs.declared.input_form.InputForm.{InputForm}
 use Rattle.cc_io.specs.declared.input_form.InputForm.TheVariants.{Lines, Bytes}
@@ -73,3 +72,32 @@ module _ {S : Type 0} (options_of : S → Options) (Answered : Relation S) (answ
       )
   are_answers old new [] (reply ∷ replies) t = absurd t
   are_answers old new (entry ∷ entries) [] t = absurd t
+
+-- the first 129 of trailing bytes have the reply of all of them
+unfinished_whole : (options : Options) (rest text : List ℕ) → IsUnfinished options (take 129 rest) text → IsUnfinished options rest text
+unfinished_whole options rest text is = elim (cases_lt (length rest) 129) [
+  | inl short ↦ subst (λ (l : List ℕ). IsUnfinished options l text) (take_all 129 rest (omega arith)) is
+  | inr long ↦
+      let cut : length (take 129 rest) ≡ 129 = omega (arith, length-take 129 rest) in
+      record {
+        row = is.row;
+        is_row = elim is.is_row [
+          | inl word ↦ absurd (omega (arith, word_short options.input (take 129 rest) word.0, cut))
+          | inr other ↦ inr (λ word. absurd (omega (arith, word_short options.input rest word, long)), other.1)
+        ];
+        text_is = is.text_is;
+      }
+]
+
+-- what the reply of a decoder to trailing bytes says of its options
+abbrev pub Ends : {S : Type 0} → (options_of : S → Options) → Relation S → Type 0
+Ends {S} options_of Ended =
+    (old : S) (rest text : List ℕ) (is_error : Bool) (new : S) → Ended old rest text is_error new
+    → IsUnfinished (options_of old) rest text × (is_error ≡ true)
+
+pub is_ending : {S : Type 0} (options_of : S → Options) (Ended : Relation S) → Ends options_of Ended → (old new : S) (rest : List ℕ) (ending : Answer)
+    → EndsWith Ended old (take 129 rest) ending new → IsEnding (options_of old) rest ending.text × (ending.is_error ≡ not (length rest == 0))
+is_ending {S} options_of Ended ends old new [] ending e = (e.0, e.1)
+is_ending {S} options_of Ended ends old new (byte ∷ rest) ending e =
+    let reply = ends old (byte ∷ take 128 rest) ending.text ending.is_error new e in
+    (unfinished_whole (options_of old) (byte ∷ rest) ending.text reply.0, reply.1 ∙ sym (ap not (eqb-suc-zero (length rest))))

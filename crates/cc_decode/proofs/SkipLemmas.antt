@@ -40,12 +40,11 @@ use Rattle.std.proofs.Common.{
 use Rattle.std.specs.Prelude.{IfSome, ◌||◌, ◌==◌, not}
 use Rattle.std.proofs.lemmas.Bool.{cases_lt, false≢true}
 use Rattle.std.proofs.lemmas.List.{length-append, take-append-drop}
-use Rattle.std.specs.Io.KnownBytes.{Appends, Consumes, IsAtEnd, Keeps}
+use Rattle.std.specs.Io.KnownBytes.{Appends, Consumes, IsAtEnd}
 use Rattle.std.proofs.KnownBytes.{Consumes-nil, Consumes-trans}
 use Rattle.std.proofs.Math.ListN.{drop_of_length-le}
 use Rattle.cc_io.specs.Devices.{InputState, IsOutcome, OutputState, SendsBytes, TakesPrefix}
 use Rattle.cc_io.specs.Serving.{ServesText}
-use Rattle.cc_io.specs.Text.{rest_text}
 use Rattle.cc_io.specs.declared.input_form.InputForm.{InputForm}
 use Rattle.cc_io.specs.declared.input_form.InputForm.TheVariants.{Lines, Bytes}
 use Rattle.cc_io.specs.declared.devices.Failed.{Failed}
@@ -54,7 +53,7 @@ use Rattle.cc_io.specs.declared.summary.IoError.TheVariants.{Read, Write}
 use Rattle.cc_io.specs.declared.summary.Summary.{Summary}
 use Rattle.cc_decode.specs.Correct.{Lists}
 use Rattle.cc_decode.specs.Input.{frame_of, input_entries}
-use Rattle.cc_decode.specs.Output.{AreAnswers}
+use Rattle.cc_decode.specs.Output.{AreAnswers, EndsListing, IsEnding}
 use Rattle.cc_decode.specs.Part.{frame_part, unread_after}
 use Rattle.cc_decode.specs.Place.{header_of}
 use Rattle.cc_decode.specs.Skip.{Skips}
@@ -119,7 +118,7 @@ whole count (Some xs) (Some ys) (Some zs) text rest given ends after = record {
 -- the listing of the part after the skipped bytes
 pub lists_after : (part : Part) (options : Options) (a b c : InputState) (t u : OutputState) (result : Result Summary IoError) (text : List ℕ)
     → Skips {E = Failed} part.skipped a b (Ok tt) → Consumes b.unread c.unread text → IsOutcome c u result
-    → ServesText (AreAnswers options) (frame_part part.count (frame_of options.input)) 32768 512 (header_of options) text
+    → ServesText (AreAnswers options) (EndsListing options) (frame_part part.count (frame_of options.input)) 32768 512 (header_of options) text
     (unread_after part.count (input_entries options.input text) c.unread) t.taken u.taken result → Lists part options a c t u result
 lists_after part options a b c t u result text skips given outcome serves =
     let w = whole part.skipped a.unread b.unread c.unread skips.text text skips.given skips.ends given in
@@ -127,7 +126,7 @@ lists_after part options a b c t u result text skips given outcome serves =
       text = w.text;
       given = w.given;
       lists =
-          inr (subst (λ (l : List ℕ). ServesText (AreAnswers options) (frame_part part.count (frame_of options.input)) 32768 512 (header_of options) l
+          inr (subst (λ (l : List ℕ). ServesText (AreAnswers options) (EndsListing options) (frame_part part.count (frame_of options.input)) 32768 512 (header_of options) l
           (unread_after part.count (input_entries options.input l) c.unread) t.taken u.taken result) w.rest_is serves);
       outcome = outcome;
     }
@@ -157,22 +156,69 @@ rest_none : (input : InputForm) → (frame_part (Some 0) (frame_of input)).left 
 rest_none Lines = refl
 rest_none (Bytes order) = refl
 
+ends_none : (options : Options) → IsEnding options ((frame_part (Some 0) (frame_of options.input)).left [] []) []
+ends_none options = subst (λ (rest : List ℕ). IsEnding options rest []) (sym (rest_none options.input)) refl
+
 -- what is written of no entries
 abbrev Heads : (count : Option ℕ) (options : Options) (header : List ℕ) (left t u : Option (List ℕ)) → Result Summary IoError → Type 0
 Heads count options header left t u result =
-    ServesText (AreAnswers options) (frame_part count (frame_of options.input)) 32768 512 header [] (unread_after count (input_entries options.input []) left) t u result
+    ServesText (AreAnswers options) (EndsListing options) (frame_part count (frame_of options.input)) 32768 512 header [] (unread_after count (input_entries options.input []) left) t u result
 
 -- the flush failed, or a write of the header did
 stops_header : (options : Options) (header : List ℕ) (left t u : Option (List ℕ)) → TakesPrefix t u header → Heads (Some 0) options header left t u (Err Write)
 stops_header options [] left t u took =
-    inr (inr (over_none options.input left, record { answers = []; are_answers = tt; count = 0; within = omega arith; written = nothing took.count took.taken }))
+    inr (inr (
+      over_none options.input left,
+      record {
+        answers = [];
+        are_answers = tt;
+        ending = [];
+        is_ending = ends_none options;
+        count = 0;
+        within = omega arith;
+        written = nothing took.count took.taken;
+      },
+    ))
   where
     nothing : (count : ℕ) → Appends t u (take count []) → Appends t u []
     nothing zero appends = appends
     nothing (suc count) appends = appends
 stops_header options (byte ∷ header) left t u took = inl (refl, record { some = omega arith; are_answers = tt; written = took })
 
+wrote_header : (options : Options) (header : List ℕ) (left t u : Option (List ℕ)) → Appends t u header
+    → Heads (Some 0) options header left t u (Ok (record { any_error = false }))
+wrote_header options header left t u wrote = (
+  over_none options.input left,
+  record {
+    answers = [];
+    are_answers = tt;
+    ending = [];
+    is_ending = ends_none options;
+    written = subst (Appends t u) (sym (append-nil (header ++ []) ∙ append-nil header)) wrote;
+    error_is = subst (λ (rest : List ℕ). false ≡ (false || not (length rest == 0))) (sym (rest_none options.input)) refl;
+  },
 )
+
+-- a source that skipped has not failed
+works_after : {count : ℕ} {a b : InputState} → Skips {E = Failed} count a b (Ok tt) → false ≡ b.has_failed
+works_after {count} {a} {b} skips = by b.has_failed (λ failed. false≢true (skips.fails.1 failed)) where
+  by : (failed : Bool) → (failed ≡ true → ⊥) → false ≡ failed
+  by false works = refl
+  by true works = absurd (works refl)
+
+-- the header was written
+pub lists_header : (part : Part) (options : Options) (a b : InputState) (t u : OutputState) (header : List ℕ) → part.count ≡ Some 0 → header ≡ header_of options
+    → Skips {E = Failed} part.skipped a b (Ok tt) → SendsBytes {E = IoError} t u header (Ok tt) → Lists part options a b t u (Ok (record { any_error = false }))
+lists_header part options a b t u header none is skips sends =
+    lists_after part options a b b t u (Ok (record { any_error = false })) [] skips (Consumes-nil b.unread)
+    (record {
+      read = (λ no. absurd (cc no), λ failed. absurd (false≢true (works_after skips ∙ failed)));
+      write = (λ no. absurd (cc no), λ failed. cc (sends.fails.1 failed));
+      flushed = sends.flushed;
+    })
+    (subst (λ (l : List ℕ). Heads part.count options l b.unread t.taken u.taken (Ok (record { any_error = false }))) is
+    (subst (λ (count : Option ℕ). Heads count options header b.unread t.taken u.taken (Ok (record { any_error = false }))) (sym none)
+    (wrote_header options header b.unread t.taken u.taken sends.ok)))
 
 -- the sink failed
 pub stops_at_header : (part : Part) (options : Options) (a b : InputState) (t u : OutputState) (header : List ℕ) (error : IoError) → part.count ≡ Some 0
@@ -258,7 +304,7 @@ lists_further passed part options bytes a c t u result fits known l =
       lists = elim l.lists [
         | inl failed ↦ inl (failed.0, omega (arith, w.few, failed.1, fits), failed.2)
         | inr serves ↦
-            inr (subst (λ (rest : List ℕ). ServesText (AreAnswers options) (frame_part part.count (frame_of options.input)) 32768 512 (header_of options) rest
+            inr (subst (λ (rest : List ℕ). ServesText (AreAnswers options) (EndsListing options) (frame_part part.count (frame_of options.input)) 32768 512 (header_of options) rest
             (unread_after part.count (input_entries options.input rest) c.unread) t.taken u.taken result) w.rest_is serves)
       ];
       outcome = l.outcome;

@@ -8,17 +8,17 @@ use Rattle.cc_io.specs.declared.summary.IoError.{IoError}
 use Rattle.cc_io.specs.declared.summary.IoError.TheVariants.{Read}
 use Rattle.cc_io.specs.declared.summary.Summary.{Summary}
 use Rattle.cc_decode.specs.Input.{frame_of, input_entries}
-use Rattle.cc_decode.specs.Output.{AreAnswers}
+use Rattle.cc_decode.specs.Output.{AreAnswers, EndsListing}
 use Rattle.cc_decode.specs.Part.{frame_part, unread_after}
 use Rattle.cc_decode.specs.Place.{header_of}
 use Rattle.cc_decode.specs.declared.options.Options.{Options}
 use Rattle.cc_decode.specs.declared.options.Part.{Part}
 
 -- WritesListing holds if the sink took the whole listing of `text`: the header of the format, the
--- reply to each entry, and the refusal of trailing bytes, if any.
+-- reply to each entry, and that to trailing bytes, if any.
 abbrev pub WritesListing : Options → (text : List ℕ) (taken taken_now : Option (List ℕ)) → (any_error : Bool) → Type 0
 WritesListing options text taken taken_now any_error =
-    WritesWhole (AreAnswers options) (frame_of options.input) (header_of options) text taken taken_now any_error
+    WritesWhole (AreAnswers options) (EndsListing options) (frame_of options.input) (header_of options) text taken taken_now any_error
 
 -- Lists holds if the bytes written are the listing of the part of some text that the source gave, up to
 -- a failure: the header of the format, and the replies to the entries after the skipped bytes, as many as
@@ -30,6 +30,6 @@ pub record Lists (part : Part) (options : Options) (input input_now : InputState
   pub given : Consumes input.unread input_now.unread text
   pub lists :
       ((result ≡ Err Read) × (length text < part.skipped) × (output_now.taken ≡ output.taken))
-      ⊎ ServesText (AreAnswers options) (frame_part part.count (frame_of options.input)) 32768 512 (header_of options) (drop part.skipped text)
+      ⊎ ServesText (AreAnswers options) (EndsListing options) (frame_part part.count (frame_of options.input)) 32768 512 (header_of options) (drop part.skipped text)
       (unread_after part.count (input_entries options.input (drop part.skipped text)) input_now.unread) output.taken output_now.taken result
   pub outcome : IsOutcome input_now output_now result

@@ -1,12 +1,10 @@
 -- The replies of a decoder. No public clause cites this file.
 use Rattle.std.specs.Prelude.{◌≡◌, ℕ, Bool, true, false, List, ◌++◌, Option, None, Some}
-use Rattle.cc_word.specs.declared.refusal.Refusal.TheVariants.{Unfinished}
-use Rattle.cc_io.specs.Text.{with_line_feed, refusal_text}
 use Rattle.cc_io.specs.Answers.{Relation}
 use Rattle.cc_decode.specs.Part.{is_part_over, left_after}
 use Rattle.cc_decode.specs.Place.{after_entry}
 use Rattle.cc_decode.specs.Row.{IsWordRow}
-use Rattle.cc_decode.specs.Output.{IsAnswer, IsWordAnswer, refused_text}
+use Rattle.cc_decode.specs.Output.{IsAnswer, IsRowLine, IsUnfinished, IsWordAnswer, refused_text}
 use Rattle.cc_decode.specs.declared.decoder.Decoder.{Decoder}
 use Rattle.cc_decode.specs.declared.decoder.PlainDecoder.{PlainDecoder}
 use Rattle.cc_io.specs.declared.format.Format.{Format}
@@ -28,19 +26,33 @@ pub record AnswersEntry (old : Decoder) (entry text : List ℕ) (is_error : Bool
   pub goes_on : is_part_over old.left ≡ false
   pub left : new.left ≡ left_after old.left 1
 
--- RefusesUnfinished holds if `text` is `error 2 unfinished`.
-abbrev pub RefusesUnfinished : {S : Type 0} → Relation S
-RefusesUnfinished {S} old rest text is_error new = (text ≡ with_line_feed (refusal_text Unfinished)) × (is_error ≡ true)
+-- EndsPlainly holds if `text` is the reply to trailing bytes, which is an error.
+abbrev pub EndsPlainly : Relation PlainDecoder
+EndsPlainly old rest text is_error new = IsUnfinished (plain_options old) rest text × (is_error ≡ true)
 
--- RefusesRest holds if `text` is `error 2 unfinished`, and a further entry would still be decoded.
-abbrev pub RefusesRest : Relation Decoder
-RefusesRest old rest text is_error new = RefusesUnfinished old rest text is_error new × (is_part_over old.left ≡ false)
+-- EndsPart holds if `text` is the reply to trailing bytes, which is an error, and a further entry would still
+-- be decoded.
+abbrev pub EndsPart : Relation Decoder
+EndsPart old rest text is_error new =
+    IsUnfinished old.options rest text × (is_error ≡ true) × (is_part_over old.left ≡ false)
 
 -- AppendsRow holds if the row of the word was appended.
 pub record AppendsRow (format : Format) (word : ℕ) (old new : List ℕ) : Type 0 where
   pub row : List ℕ
   pub is_row : IsWordRow format word row
   pub written : new ≡ old ++ row
+
+-- AppendsLine holds if the line of the word was appended.
+pub record AppendsLine (format : Format) (at : Option ℕ) (word : ℕ) (old new : List ℕ) : Type 0 where
+  pub text : List ℕ
+  pub is_line : IsRowLine format at word text
+  pub written : new ≡ old ++ text
+
+-- AppendsUnfinished holds if the reply to trailing bytes was appended.
+pub record AppendsUnfinished (options : Options) (rest old new : List ℕ) : Type 0 where
+  pub text : List ℕ
+  pub is_reply : IsUnfinished options rest text
+  pub written : new ≡ old ++ text
 
 -- AppendsWord holds if the reply to the word was appended.
 pub record AppendsWord (options : Options) (word : ℕ) (old new : List ℕ) : Type 0 where
@@ -51,7 +63,7 @@ pub record AppendsWord (options : Options) (word : ℕ) (old new : List ℕ) : T
 -- IsEntryReply holds if `text` is the reply to a word, or that to an entry that is not one, which is an
 -- error.
 abbrev pub IsEntryReply : Options → (word : Option ℕ) (text : List ℕ) (is_error : Bool) → Type 0
-IsEntryReply options None text is_error = (text ≡ refused_text options.search) × (is_error ≡ true)
+IsEntryReply options None text is_error = (text ≡ refused_text options.format options.search) × (is_error ≡ true)
 IsEntryReply options (Some word) text is_error = IsWordAnswer options word text × (is_error ≡ false)
 
 -- AppendsReply holds if the reply to an entry was appended, which is this word, if it is one.

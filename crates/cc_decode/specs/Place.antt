@@ -3,7 +3,7 @@ use Rattle.std.specs.Prelude.{ℕ, zero, suc, ◌+◌, ◌%◌, ◌^◌, List, [
 use Rattle.cc_word.specs.WordText.{hexadecimal}
 use Rattle.cc_decode.specs.Row.{header_text, padded}
 use Rattle.cc_io.specs.declared.format.Format.{Format}
-use Rattle.cc_io.specs.declared.format.Format.TheVariants.{Columns, Csv, Fixed, Text}
+use Rattle.cc_io.specs.declared.format.Format.TheVariants.{Columns, Csv, Fixed, Json, Text}
 use Rattle.cc_decode.specs.declared.options.Options.{Options}
 
 -- The address of the next word. After the last word of memory it is 0.
@@ -25,11 +25,20 @@ place_of Columns address = hexadecimal address ++ codes " "
 place_of Text address = hexadecimal address ++ codes ": "
 place_of Fixed address = padded address ++ codes " "
 place_of Csv address = hexadecimal address ++ codes ","
+place_of Json address = codes "\"at\":\"" ++ hexadecimal address ++ codes "\","
 
--- The column of the address, if there is one.
+-- The start of a line: the brace that opens an object, and otherwise nothing.
+abbrev pub opening_text : Format → List ℕ
+opening_text Columns = []
+opening_text Text = []
+opening_text Fixed = []
+opening_text Csv = []
+opening_text Json = codes "{"
+
+-- The bytes of a line before the row: its start, and the column of the address, if there is one.
 abbrev pub place_text : Format → (at : Option ℕ) → List ℕ
-place_text format None = []
-place_text format (Some address) = place_of format address
+place_text format None = opening_text format
+place_text format (Some address) = opening_text format ++ place_of format address
 
 -- The name of the column of the address in the header of a format.
 abbrev pub place_name : Format → List ℕ
@@ -37,6 +46,7 @@ place_name Columns = []
 place_name Text = []
 place_name Fixed = []
 place_name Csv = codes "at,"
+place_name Json = []
 
 -- The header of a listing: the header of the format, after the name of the column of the address.
 abbrev pub header_of : Options → List ℕ

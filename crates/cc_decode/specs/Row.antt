@@ -8,9 +8,10 @@ use Rattle.cc_bounds.specs.Decoding.{stored_exponent}
 use Rattle.cc_cap.specs.LineText.{IsWordLine}
 use Rattle.cc_io.specs.Text.{with_line_feed}
 use Rattle.cc_cap.specs.WordTelling.{TellsWord}
-use Rattle.cc_io.specs.Permissions.{permissions_text}
+use Rattle.cc_io.specs.Numbered.{with_digits, with_hexadecimal}
+use Rattle.cc_io.specs.Permissions.{permissions_array, permissions_text}
 use Rattle.cc_io.specs.declared.format.Format.{Format}
-use Rattle.cc_io.specs.declared.format.Format.TheVariants.{Columns, Csv, Fixed, Text}
+use Rattle.cc_io.specs.declared.format.Format.TheVariants.{Columns, Csv, Fixed, Json, Text}
 
 -- The word, base, top, permissions, flag, type and exponent, and whether the word is canonical,
 -- with the separator between.
@@ -42,13 +43,35 @@ fixed_text word fields bounds canonical =
     ++ codes " " ++ digits_of 4 fields.perms ++ codes " " ++ decimal (bit_of fields.flag) ++ codes " " ++ digits_of 5 fields.otype
     ++ codes " " ++ digits_of 2 (stored_exponent fields) ++ codes " " ++ decimal (bit_of canonical)
 
+-- The members of the object of a word: the word, and its permissions, reserved bits, flag and type.
+abbrev pub json_rights : (word : ℕ) (fields : Fields) → List ℕ
+json_rights word fields =
+    with_digits (codes "\"word\":\"") 32 word ++ with_digits (codes "\",\"perms\":\"") 4 fields.perms
+    ++ codes "\",\"names\":" ++ permissions_array fields.perms ++ codes ",\"reserved\":" ++ decimal fields.reserved
+    ++ codes ",\"flag\":" ++ decimal (bit_of fields.flag) ++ with_digits (codes ",\"type\":\"") 5 fields.otype
+
+-- The members of the address, the exponent and the bounds.
+abbrev pub json_bounds : (fields : Fields) (bounds : Span) → List ℕ
+json_bounds fields bounds =
+    with_hexadecimal (codes "\",\"address\":\"") fields.address
+    ++ codes "\",\"exponent\":" ++ decimal (stored_exponent fields)
+    ++ with_hexadecimal (codes ",\"base\":\"") bounds.base ++ with_hexadecimal (codes "\",\"top\":\"") bounds.top
+
+-- All members of the object of a word, and the brace that closes it. The address and the bounds are strings, since
+-- many readers of JSON round numbers from 2^53 up.
+abbrev pub json_text : (word : ℕ) (fields : Fields) (bounds : Span) (canonical : Bool) → List ℕ
+json_text word fields bounds canonical =
+    json_rights word fields ++ json_bounds fields bounds
+    ++ codes "\",\"canonical\":" ++ (if canonical then codes "true" else codes "false") ++ codes "}"
+
 -- IsWordRow holds if `row` is the reply to the word: its columns, the line of a tagged word, its
--- columns in one width each, or its comma-separated values.
+-- columns in one width each, its comma-separated values, or the members of its object.
 abbrev pub IsWordRow : Format → (word : ℕ) (row : List ℕ) → Type 0
 IsWordRow Columns word row = TellsWord columns_text word row
 IsWordRow Text word row = IsWordLine word true row
 IsWordRow Fixed word row = TellsWord fixed_text word row
 IsWordRow Csv word row = TellsWord csv_text word row
+IsWordRow Json word row = TellsWord json_text word row
 
 -- The header of a format: the names of the columns for comma-separated values, and otherwise
 -- nothing.
@@ -56,4 +79,5 @@ abbrev pub header_text : Format → List ℕ
 header_text Columns = []
 header_text Text = []
 header_text Fixed = []
+header_text Json = []
 header_text Csv = with_line_feed (codes "word,base,top,perms,flag,type,exponent,canonical,address,names")

@@ -1,23 +1,24 @@
 //! The replies to entries, and the refusal of trailing bytes.
-ghost use Rattle.std.specs.Prelude.{◌≡◌, ◌≤◌, ◌+◌, ◌++◌, ℕ, false, length, true};
-ghost use Rattle.cc_io.specs.Text.{refusal_text, with_line_feed};
+ghost use Rattle.std.specs.Prelude.{◌≡◌, ◌≤◌, ◌+◌, ◌++◌, ℕ, false, length};
 ghost use Rattle.cc_word.specs.declared.refusal.Refusal.TheVariants as RefusalSpec;
 ghost use Rattle.cc_decode.specs.Decoder.{
   AnswersEntry,
   AnswersPlainly,
   AppendsReply,
+  AppendsUnfinished,
   AppendsWord,
-  RefusesRest,
-  RefusesUnfinished,
+  EndsPart,
+  EndsPlainly,
 };
+ghost use Rattle.cc_decode.specs.Output.{refusal_line};
 ghost use Rattle.cc_decode.specs.Part.{is_part_over, left_after};
 
 use crate::entries::read_entry;
 use crate::options::Options;
-use crate::places::{next_place, push_place};
-use crate::rows::push_row;
+use crate::places::next_place;
+use crate::rows::push_row_line;
 use crate::search::is_listed;
-use crate::writers::{Batch, ROOM, push_byte};
+use crate::writers::{Batch, ROOM};
 use cc_io::{Answerer, Format, InputForm, refusal_bytes};
 use cc_word::Refusal;
 
@@ -35,7 +36,7 @@ pub(crate) struct PlainDecoder {
 impl Answerer<ROOM> for PlainDecoder {
     ghost Answered = { AnswersPlainly };
 
-    ghost Ended = { RefusesUnfinished };
+    ghost Ended = { EndsPlainly };
 
     ghost MOST = { 512 };
 
@@ -52,19 +53,25 @@ impl Answerer<ROOM> for PlainDecoder {
     fn answer(&mut self, entry: &[u8], out: &mut Batch) -> bool {
         match read_entry(self.input, entry) {
             Some(word) => {
-                push_row(out, self.format, word);
-                push_byte(out, b'\n');
+                push_row_line(out, self.format, None, word);
                 false
             }
             None => {
-                out.push(refusal_bytes(Refusal::Syntax));
+                out.push(syntax_refusal(self.format));
                 true
             }
         }
     }
 
-    fn end(&mut self, _rest: &[u8], out: &mut Batch) -> bool {
-        push_unfinished(out)
+    fn end(&mut self, rest: &[u8], out: &mut Batch) -> bool {
+        let options = Options {
+            input: self.input,
+            format: self.format,
+            at: None,
+            search: None,
+        };
+        push_unfinished(out, &options, rest);
+        true
     }
 }
 
@@ -81,7 +88,7 @@ pub(crate) struct Decoder {
 impl Answerer<ROOM> for Decoder {
     ghost Answered = { AnswersEntry };
 
-    ghost Ended = { RefusesRest };
+    ghost Ended = { EndsPart };
 
     ghost MOST = { 512 };
 
@@ -108,8 +115,9 @@ impl Answerer<ROOM> for Decoder {
         is_error
     }
 
-    fn end(&mut self, _rest: &[u8], out: &mut Batch) -> bool {
-        push_unfinished(out)
+    fn end(&mut self, rest: &[u8], out: &mut Batch) -> bool {
+        push_unfinished(out, &self.options, rest);
+        true
     }
 }
 
@@ -124,14 +132,42 @@ fn fewer(left: Option<u64>) -> Option<u64>
     }
 }
 
-/// Appends the refusal of trailing bytes, and returns that it is an error.
-fn push_unfinished(out: &mut Batch) -> bool
+/// Appends the reply to trailing bytes: that to the word that they are, if they are one, and then their refusal.
+fn push_unfinished(out: &mut Batch, options: &Options, rest: &[u8])
     requires { length out.old + 512 ≤ 32768 }
-    ensures text { out.new ≡ out.old ++ with_line_feed (refusal_text RefusalSpec.Unfinished) }
-    ensures is_error { result ≡ true }
+    ensures { AppendsUnfinished options.now rest.now out.old out.new }
 {
-    out.push(refusal_bytes(Refusal::Unfinished));
-    true
+    match read_entry(options.input, rest) {
+        Some(word) => push_word(out, options, word),
+        None => {}
+    }
+    out.push(unfinished_refusal(options.format));
+}
+
+/// Returns the line of the refusal of an entry that is not a word.
+fn syntax_refusal(format: Format) -> &'static [u8]
+    ensures value { result.now ≡ refusal_line format RefusalSpec.Syntax }
+    ensures fits { length result.now ≤ 32 }
+{
+    match format {
+        Format::Columns | Format::Text | Format::Fixed | Format::Csv => {
+            refusal_bytes(Refusal::Syntax)
+        }
+        Format::Json => b"{\"error\":1,\"name\":\"syntax\"}\n",
+    }
+}
+
+/// Returns the line of the refusal of trailing bytes.
+fn unfinished_refusal(format: Format) -> &'static [u8]
+    ensures value { result.now ≡ refusal_line format RefusalSpec.Unfinished }
+    ensures fits { length result.now ≤ 32 }
+{
+    match format {
+        Format::Columns | Format::Text | Format::Fixed | Format::Csv => {
+            refusal_bytes(Refusal::Unfinished)
+        }
+        Format::Json => b"{\"error\":2,\"name\":\"unfinished\"}\n",
+    }
 }
 
 /// Appends the reply to an entry, which is this word, if it is one. Returns whether it is an error.
@@ -146,7 +182,7 @@ fn push_reply(out: &mut Batch, options: &Options, word: Option<u128>) -> bool
         }
         None => {
             if options.search.is_none() {
-                out.push(refusal_bytes(Refusal::Syntax));
+                out.push(syntax_refusal(options.format));
             }
             true
         }
@@ -155,12 +191,11 @@ fn push_reply(out: &mut Batch, options: &Options, word: Option<u128>) -> bool
 
 /// Appends the line of a word, if the word is listed.
 fn push_word(out: &mut Batch, options: &Options, word: u128)
-    requires { length out.old + 512 ≤ 32768 }
-    ensures { AppendsWord options.now word out.old out.new }
+    requires { length out.old + 474 ≤ 32768 }
+    ensures word { AppendsWord options.now word out.old out.new }
+    ensures fits { length out.new ≤ length out.old + 474 }
 {
     if is_listed(options.search, word) {
-        push_place(out, options.format, options.at);
-        push_row(out, options.format, word);
-        push_byte(out, b'\n');
+        push_row_line(out, options.format, options.at, word);
     }
 }

@@ -25,7 +25,8 @@ use cc_io::{
 /// address of the first entry. In a search, only the words that it finds get a reply. The reply to a
 /// line that is not 32 hexadecimal digits, with or without `0x` before them, is `error 1 syntax`, or
 /// nothing in a search; it is an error in both cases. The reply to bytes after the last entry,
-/// unless there are none, is `error 2 unfinished`. The source is read in chunks of up to 16 KiB.
+/// unless there are none, is that to the word that they are, if they are one, and then
+/// `error 2 unfinished`. In JSON a refusal is an object. The source is read in chunks of up to 16 KiB.
 /// Before each read, all replies to earlier entries are written. The sink is flushed once, at the
 /// end. Allocates nothing.
 ///
@@ -128,19 +129,19 @@ fn place_name(format: Format) -> &'static [u8]
     ensures fits { length result.now ≤ 10 }
 {
     match format {
-        Format::Columns | Format::Text | Format::Fixed => b"",
+        Format::Columns | Format::Text | Format::Fixed | Format::Json => b"",
         Format::Csv => b"at,",
     }
 }
 
 /// Returns the header of a format: the names of the columns for comma-separated values, and
 /// otherwise nothing.
-fn header(format: Format) -> &'static [u8]
+pub(crate) fn header(format: Format) -> &'static [u8]
     ensures value { result.now ≡ header_text format }
     ensures fits { length result.now ≤ 100 }
 {
     match format {
-        Format::Columns | Format::Text | Format::Fixed => b"",
+        Format::Columns | Format::Text | Format::Fixed | Format::Json => b"",
         Format::Csv => b"word,base,top,perms,flag,type,exponent,canonical,address,names\n",
     }
 }

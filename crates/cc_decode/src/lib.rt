@@ -12,6 +12,7 @@ mod places;
 mod rows;
 mod runs;
 mod search;
+mod showing;
 mod skipping;
 mod writers;
 
@@ -19,3 +20,4 @@ pub use annotating::annotate;
 pub use cc_io::{ByteOrder, Format, InputForm};
 pub use decoding::decode_words;
 pub use options::{Options, Part, Search};
+pub use showing::show_row;

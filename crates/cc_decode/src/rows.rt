@@ -18,38 +18,53 @@ ghost use Rattle.cc_word.specs.Word.{bit_of};
 ghost use Rattle.cc_word.specs.WordText.{digits_of, hexadecimal};
 ghost use Rattle.cc_cap.specs.LineText.{letter_of, letters_of, word_line_of, marks_of};
 ghost use Rattle.cc_word.specs.Permissions.{bits_of};
-ghost use Rattle.cc_io.specs.Permissions.{permissions_text};
-ghost use Rattle.cc_decode.specs.Decoder.{AppendsRow};
-ghost use Rattle.cc_decode.specs.Row.{columns_text, csv_text, fixed_text, padded, values_text};
+ghost use Rattle.cc_io.specs.Permissions.{permissions_array, permissions_text};
+ghost use Rattle.cc_decode.specs.Decoder.{AppendsLine, AppendsRow};
+ghost use Rattle.cc_decode.specs.Row.{columns_text, csv_text, fixed_text, json_bounds, json_rights, json_text, padded};
+ghost use Rattle.cc_decode.specs.Row.{values_text};
 
+use crate::places::push_place;
 use crate::writers::{
     Batch, push_byte, push_byte_if, push_decimal, push_digits, push_hexadecimal, push_padded,
 };
 use bitflags::Flags;
 use cc_bounds::{Span, exponent};
 use cc_cap::Decoded;
-use cc_io::{Format, Line, push_permissions};
+use cc_io::{Format, Line, push_permissions, push_permissions_array};
 use cc_word::{Fields, Perms, SENTRY_TYPE, UNSEALED_TYPE};
 
-/// Appends the reply to a word in this format, without a line feed: at most 450 bytes.
+/// Appends the line of a word in this format, with its address, if there is one: at most 474 bytes.
+#[inline(always)]
+pub(crate) fn push_row_line(batch: &mut Batch, format: Format, at: Option<u64>, word: u128)
+    requires { length batch.old + 474 ≤ 32768 }
+    ensures line { AppendsLine format at word batch.old batch.new }
+    ensures fits { length batch.new ≤ length batch.old + 474 }
+{
+    push_place(batch, format, at);
+    push_row(batch, format, word);
+    push_byte(batch, b'\n');
+}
+
+/// Appends the reply to a word in this format, without a line feed: at most 430 bytes.
 pub(crate) fn push_row(batch: &mut Batch, format: Format, word: u128)
-    requires { length batch.old + 450 ≤ 32768 }
+    requires { length batch.old + 430 ≤ 32768 }
     ensures row { AppendsRow format word batch.old batch.new }
-    ensures fits { length batch.new ≤ length batch.old + 450 }
+    ensures fits { length batch.new ≤ length batch.old + 430 }
 {
     match format {
         Format::Columns => push_columns(batch, word),
         Format::Text => push_line(batch, word),
         Format::Fixed => push_fixed(batch, word),
         Format::Csv => push_csv(batch, word),
+        Format::Json => push_json(batch, word),
     }
 }
 
 /// Appends the columns of a word.
 fn push_columns(batch: &mut Batch, word: u128)
-    requires { length batch.old + 450 ≤ 32768 }
+    requires { length batch.old + 430 ≤ 32768 }
     ensures row { AppendsRow Format.Columns word batch.old batch.new }
-    ensures fits { length batch.new ≤ length batch.old + 450 }
+    ensures fits { length batch.new ≤ length batch.old + 430 }
 {
     let decoded = Decoded::of_word(word);
     let canonical = decoded.is_canonical();
@@ -65,9 +80,9 @@ fn push_columns(batch: &mut Batch, word: u128)
 
 /// Appends the line that a tagged word has.
 fn push_line(batch: &mut Batch, word: u128)
-    requires { length batch.old + 450 ≤ 32768 }
+    requires { length batch.old + 430 ≤ 32768 }
     ensures row { AppendsRow Format.Text word batch.old batch.new }
-    ensures fits { length batch.new ≤ length batch.old + 450 }
+    ensures fits { length batch.new ≤ length batch.old + 430 }
 {
     let decoded = Decoded::of_word(word);
     push_line_of(batch, &decoded.fields, &decoded.bounds);
@@ -75,9 +90,9 @@ fn push_line(batch: &mut Batch, word: u128)
 
 /// Appends the line of a tagged word with these fields and bounds.
 fn push_line_of(batch: &mut Batch, fields: &Fields, bounds: &Span)
-    requires { length batch.old + 450 ≤ 32768 }
+    requires { length batch.old + 430 ≤ 32768 }
     ensures value { batch.new ≡ batch.old ++ word_line_of fields.now bounds.now true }
-    ensures fits { length batch.new ≤ length batch.old + 450 }
+    ensures fits { length batch.new ≤ length batch.old + 430 }
 {
     push_address_and_letters(batch, fields);
     push_bounds_and_mark(batch, fields, bounds);
@@ -147,9 +162,9 @@ fn push_mark(batch: &mut Batch, otype: u32)
 
 /// Appends the columns of a word in one width each.
 fn push_fixed(batch: &mut Batch, word: u128)
-    requires { length batch.old + 450 ≤ 32768 }
+    requires { length batch.old + 430 ≤ 32768 }
     ensures row { AppendsRow Format.Fixed word batch.old batch.new }
-    ensures fits { length batch.new ≤ length batch.old + 450 }
+    ensures fits { length batch.new ≤ length batch.old + 430 }
 {
     let decoded = Decoded::of_word(word);
     let canonical = decoded.is_canonical();
@@ -158,7 +173,7 @@ fn push_fixed(batch: &mut Batch, word: u128)
 
 /// Appends the columns in one width each of a word with these fields and bounds.
 fn push_fixed_values(batch: &mut Batch, word: u128, fields: &Fields, bounds: &Span, canonical: bool)
-    requires { length batch.old + 450 ≤ 32768 }
+    requires { length batch.old + 430 ≤ 32768 }
     ensures value { batch.new ≡ batch.old ++ fixed_text word fields.now bounds.now canonical }
     ensures fits { length batch.new ≤ length batch.old + 92 }
 {
@@ -197,9 +212,9 @@ fn push_fixed_encoding(batch: &mut Batch, exponent: u8, canonical: bool)
 
 /// Appends the comma-separated values of a word.
 fn push_csv(batch: &mut Batch, word: u128)
-    requires { length batch.old + 450 ≤ 32768 }
+    requires { length batch.old + 430 ≤ 32768 }
     ensures row { AppendsRow Format.Csv word batch.old batch.new }
-    ensures fits { length batch.new ≤ length batch.old + 450 }
+    ensures fits { length batch.new ≤ length batch.old + 430 }
 {
     let decoded = Decoded::of_word(word);
     let canonical = decoded.is_canonical();
@@ -208,12 +223,80 @@ fn push_csv(batch: &mut Batch, word: u128)
 
 /// Appends the comma-separated values of a word with these fields and bounds.
 fn push_csv_values(batch: &mut Batch, word: u128, fields: &Fields, bounds: &Span, canonical: bool)
-    requires { length batch.old + 450 ≤ 32768 }
+    requires { length batch.old + 430 ≤ 32768 }
     ensures value { batch.new ≡ batch.old ++ csv_text word fields.now bounds.now canonical }
-    ensures fits { length batch.new ≤ length batch.old + 450 }
+    ensures fits { length batch.new ≤ length batch.old + 430 }
 {
     push_values(batch, b',', word, fields, bounds, canonical);
     push_address_and_names(batch, fields.address, fields.perms);
+}
+
+/// Appends the members of the object of a word, and the brace that closes it.
+fn push_json(batch: &mut Batch, word: u128)
+    requires { length batch.old + 430 ≤ 32768 }
+    ensures row { AppendsRow Format.Json word batch.old batch.new }
+    ensures fits { length batch.new ≤ length batch.old + 430 }
+{
+    let decoded = Decoded::of_word(word);
+    let canonical = decoded.is_canonical();
+    push_json_members(batch, word, &decoded.fields, &decoded.bounds, canonical);
+}
+
+/// Appends the members of the object of a word with these fields and bounds, and the brace that closes it.
+fn push_json_members(batch: &mut Batch, word: u128, fields: &Fields, bounds: &Span, canonical: bool)
+    requires { length batch.old + 430 ≤ 32768 }
+    ensures value { batch.new ≡ batch.old ++ json_text word fields.now bounds.now canonical }
+    ensures fits { length batch.new ≤ length batch.old + 430 }
+{
+    push_json_rights(batch, word, fields);
+    push_json_bounds(batch, fields, bounds);
+    batch.push(b"\",\"canonical\":");
+    if canonical {
+        batch.push(b"true}");
+    } else {
+        batch.push(b"false}");
+    }
+}
+
+/// Appends the members of the word, its permissions, its reserved bits, its flag and its type.
+fn push_json_rights(batch: &mut Batch, word: u128, fields: &Fields)
+    requires { length batch.old + 262 ≤ 32768 }
+    ensures value { batch.new ≡ batch.old ++ json_rights word fields.now }
+    ensures fits { length batch.new ≤ length batch.old + 262 }
+{
+    cc_io::push_digits(batch, b"\"word\":\"", word, 32);
+    cc_io::push_digits(batch, b"\",\"perms\":\"", u128::from(fields.perms), 4);
+    batch.push(b"\",\"names\":");
+    push_names_array(batch, fields.perms);
+    batch.push(b",\"reserved\":");
+    push_decimal(batch, fields.reserved);
+    batch.push(b",\"flag\":");
+    push_decimal(batch, u8::from(fields.flag));
+    cc_io::push_digits(batch, b",\"type\":\"", u128::from(fields.otype), 5);
+}
+
+/// Appends the names of the permissions from bit 0 up, as an array.
+fn push_names_array(batch: &mut Batch, perms: u16)
+    requires { length batch.old + 159 ≤ 32768 }
+    ensures value { batch.new ≡ batch.old ++ permissions_array perms }
+    ensures fits { length batch.new ≤ length batch.old + 159 }
+{
+    let mut names = Line::new();
+    push_permissions_array(&mut names, Perms::from_bits_retain(perms));
+    batch.push(names.bytes());
+}
+
+/// Appends the members of the address, the exponent and the bounds.
+fn push_json_bounds(batch: &mut Batch, fields: &Fields, bounds: &Span)
+    requires { length batch.old + 148 ≤ 32768 }
+    ensures value { batch.new ≡ batch.old ++ json_bounds fields.now bounds.now }
+    ensures fits { length batch.new ≤ length batch.old + 148 }
+{
+    cc_io::push_hexadecimal(batch, b"\",\"address\":\"", u128::from(fields.address));
+    batch.push(b"\",\"exponent\":");
+    push_decimal(batch, exponent(fields));
+    cc_io::push_hexadecimal(batch, b",\"base\":\"", u128::from(bounds.base));
+    cc_io::push_hexadecimal(batch, b"\",\"top\":\"", bounds.top);
 }
 
 /// Appends the address and the names of the permissions, with a comma before each.

@@ -1,27 +1,39 @@
 -- The bytes written for a text, by a claim on the replies, from the contract of the pump.
-use Rattle.std.proofs.Common.{◌≡◌, ℕ, ◌≤◌, Bool, true, false, List, [], ◌∷◌, ◌++◌, length, take, refl, sym, ◌∙◌, ap, subst, append_assoc, not, ◌==◌, ◌||◌, Option, Result, Ok, Err, inl, inr}
+use Rattle.std.proofs.Common.{◌≡◌, ℕ, Bool, true, false, List, [], ◌∷◌, ◌++◌, length, take, refl, sym, ◌∙◌, ap, subst, append_assoc, not, ◌==◌, ◌||◌, Option, Result, Ok, Err, inl, inr}
 use Rattle.std.proofs.Math.Dec.{eqb-suc-zero}
 use Rattle.std.specs.List.{list_any}
 use Rattle.std.specs.Io.KnownBytes.{Appends}
-use Rattle.cc_io.specs.Text.{rest_text, refusal_text, with_line_feed}
+use Rattle.cc_io.specs.Text.{refusal_text, with_line_feed}
 use Rattle.cc_word.specs.declared.refusal.Refusal.TheVariants.{Unfinished}
 use Rattle.cc_io.specs.Devices.{InputState, IsOutcome, OutputState}
 use Rattle.cc_io.specs.Frames.{Frame}
 use Rattle.cc_io.specs.Answers.{Answer, AnswersAll, EndsWith, Relation, answers_text, seen}
 use Rattle.cc_io.specs.Correct.{Pumps, PumpsText, WritesOutput, StopsOnPage, StopsAfterAnswers}
-use Rattle.cc_io.specs.Serving.{Claim, WritesWhole, StopsInPage, StopsAfter, ServesText, Serves}
+use Rattle.cc_io.specs.Serving.{Claim, Ending, RefusesRest, WritesWhole, StopsInPage, StopsAfter, ServesText, Serves}
 use Rattle.cc_io.specs.declared.summary.IoError.{IoError}
 use Rattle.cc_io.specs.declared.summary.IoError.TheVariants.{Read, Write}
 use Rattle.cc_io.specs.declared.summary.Summary.{Summary}
 use Rattle.cc_io.proofs.EngineLemmas.{all_further}
 
--- The replies of an answerer from `old` on, which ends as `new`, are those of the claim, and trailing
--- bytes are refused as unfinished.
-pub record Makes {S : Type 0} (Answered Ended : Relation S) (Are : Claim) (old new : S) : Type 0 where
+-- The replies of an answerer from `old` on, which ends as `new`, satisfy the claims, and one to
+-- trailing bytes is an error.
+pub record Makes {S : Type 0} (Answered Ended : Relation S) (Are : Claim) (Ends : Ending) (old new : S) : Type 0 where
   pub are : (entries : List (List ℕ)) (answers : List Answer) (mid : S) (rest : List ℕ) (ending : Answer)
       → AnswersAll Answered old (seen entries) answers mid → EndsWith Ended mid rest ending new → Are entries answers
-  pub refuses : (mid next : S) (rest text : List ℕ) (is_error : Bool) → Ended mid rest text is_error next
-      → (text ≡ with_line_feed (refusal_text Unfinished)) × (is_error ≡ true)
+  pub ends : (entries : List (List ℕ)) (answers : List Answer) (mid : S) (rest : List ℕ) (ending : Answer)
+      → AnswersAll Answered old (seen entries) answers mid → EndsWith Ended mid (take 129 rest) ending new
+      → Ends entries rest ending.text × (ending.is_error ≡ not (length rest == 0))
+
+-- an answerer that refuses trailing bytes as unfinished
+pub refuses_rest : {S : Type 0} (Ended : Relation S)
+    → ((mid next : S) (rest text : List ℕ) (is_error : Bool) → Ended mid rest text is_error next
+    → (text ≡ with_line_feed (refusal_text Unfinished)) × (is_error ≡ true))
+    → (entries : List (List ℕ)) (mid next : S) (rest : List ℕ) (ending : Answer) → EndsWith Ended mid (take 129 rest) ending next
+    → RefusesRest entries rest ending.text × (ending.is_error ≡ not (length rest == 0))
+refuses_rest {S} Ended refuses entries mid next [] ending e = (e.0, e.1)
+refuses_rest {S} Ended refuses entries mid next (byte ∷ rest) ending e =
+    let r = refuses mid next (byte ∷ take 128 rest) ending.text ending.is_error e in
+    (r.0, r.1 ∙ sym (ap not (eqb-suc-zero (length rest))))
 
 -- ---- entries and what an answerer sees of them
 
@@ -58,7 +70,7 @@ runs_through {S} done Answered Ended frame room most old new pending c j t u res
   | inr early ↦ absurd (cc (early.0, going))
 ]
 
-module _ {S : Type 0} (Answered Ended : Relation S) (Are : Claim) (old new : S) (makes : Makes Answered Ended Are old new) where
+module _ {S : Type 0} (Answered Ended : Relation S) (Are : Claim) (Ends : Ending) (old new : S) (makes : Makes Answered Ended Are Ends old new) where
   -- the state that answered all entries is the last
   none_left : EndsWith Ended new [] (record { text = []; is_error = false }) new
   none_left = (refl, refl, refl)
@@ -66,27 +78,21 @@ module _ {S : Type 0} (Answered Ended : Relation S) (Are : Claim) (old new : S) 
   are_all : (entries : List (List ℕ)) (answers : List Answer) → AnswersAll Answered old (seen entries) answers new → Are entries answers
   are_all entries answers t = makes.are entries answers new [] (record { text = []; is_error = false }) t none_left
 
-  refused : (mid : S) (rest : List ℕ) (ending : Answer) → EndsWith Ended mid (take 129 rest) ending new
-      → (ending.text ≡ rest_text rest) × (ending.is_error ≡ not (length rest == 0))
-  refused mid [] ending e = (e.0, e.1)
-  refused mid (byte ∷ rest) ending e =
-      let r = makes.refuses mid new (byte ∷ take 128 rest) ending.text ending.is_error e in
-      (r.0, r.1 ∙ sym (ap not (eqb-suc-zero (length rest))))
-
   writes_whole : (frame : Frame) (pending text : List ℕ) (t u : Option (List ℕ)) (error : Bool)
-      → WritesOutput Answered Ended frame old pending text t u error new → WritesWhole Are frame pending text t u error
+      → WritesOutput Answered Ended frame old pending text t u error new → WritesWhole Are Ends frame pending text t u error
   writes_whole frame pending text t u error w =
       let o = w.of_text in
       let rest : List ℕ = frame.left [] text in
-      let same = refused o.mid rest o.ending o.ends in
+      let ends = makes.ends (frame.entries [] text) o.answers o.mid rest o.ending o.takes o.ends in
       record {
         answers = o.answers;
         are_answers = makes.are (frame.entries [] text) o.answers o.mid (take 129 rest) o.ending o.takes o.ends;
+        ending = o.ending.text;
+        is_ending = ends.0;
         written = subst (λ (l : List ℕ). Appends t u l)
-            (ap (λ (l : List ℕ). pending ++ l) (o.output_is ∙ ap (λ (l : List ℕ). answers_text o.answers ++ l) same.0)
-            ∙ sym (append_assoc pending (answers_text o.answers) (rest_text rest)))
+            (ap (λ (l : List ℕ). pending ++ l) o.output_is ∙ sym (append_assoc pending (answers_text o.answers) o.ending.text))
             w.written;
-        error_is = o.error_is ∙ ap (λ (b : Bool). list_any (λ (answer : Answer). answer.is_error) o.answers || b) same.1;
+        error_is = o.error_is ∙ ap (λ (b : Bool). list_any (λ (answer : Answer). answer.is_error) o.answers || b) ends.1;
       }
 
   stops_in_page : (room most : ℕ) (pending : List ℕ) (entries : List (List ℕ)) (t u : Option (List ℕ))
@@ -110,20 +116,21 @@ module _ {S : Type 0} (Answered Ended : Relation S) (Are : Claim) (old new : S) 
       }
 
   stops_after : (frame : Frame) (pending text : List ℕ) (t u : Option (List ℕ))
-      → StopsAfterAnswers Answered Ended frame old pending text t u new → StopsAfter Are frame pending text t u
+      → StopsAfterAnswers Answered Ended frame old pending text t u new → StopsAfter Are Ends frame pending text t u
   stops_after frame pending text t u s =
       let rest : List ℕ = frame.left [] text in
-      let same = (refused s.mid rest s.ending s.ends).0 in
       record {
         answers = s.answers;
         are_answers = makes.are (frame.entries [] text) s.answers s.mid (take 129 rest) s.ending s.takes s.ends;
+        ending = s.ending.text;
+        is_ending = (makes.ends (frame.entries [] text) s.answers s.mid rest s.ending s.takes s.ends).0;
         count = s.count;
-        within = subst (λ (l : List ℕ). s.count ≤ length l) same s.within;
-        written = subst (λ (l : List ℕ). Appends t u (pending ++ answers_text s.answers ++ take s.count l)) same s.written;
+        within = s.within;
+        written = s.written;
       }
 
   pub serves_text : (frame : Frame) (room most : ℕ) (pending text : List ℕ) (j t u : Option (List ℕ)) (result : Result Summary IoError)
-      → PumpsText Answered Ended frame room most old pending text j t u result new → ServesText Are frame room most pending text j t u result
+      → PumpsText Answered Ended frame room most old pending text j t u result new → ServesText Are Ends frame room most pending text j t u result
   serves_text frame room most pending text j t u (Ok summary) p = (p.0, writes_whole frame pending text t u summary.any_error p.1)
   serves_text frame room most pending text j t u (Err Read) p =
       record { answers = p.answers; are_answers = are_all (frame.entries [] text) p.answers p.takes; written = p.written }
@@ -138,11 +145,11 @@ module _ {S : Type 0} (Answered Ended : Relation S) (Are : Claim) (old new : S) 
   -- what the pump promises of an answerer that is never done is what its claim promises
   unfoldable pub serves_pumped : (frame : Frame) (room most : ℕ) (pending header : List ℕ) (c j : InputState) (t u : OutputState) (result : Result Summary IoError)
       → pending ≡ header → IsOutcome j u result → Pumps (λ (state : S). false) Answered Ended frame room most old pending c.unread j.unread t.taken u.taken result new
-      → Serves Are frame room most header c j t u result
+      → Serves Are Ends frame room most header c j t u result
   serves_pumped frame room most pending header c j t u result is outcome p = record {
     text = p.text;
     given = p.given;
-    serves = subst (λ (l : List ℕ). ServesText Are frame room most l p.text j.unread t.taken u.taken result) is
+    serves = subst (λ (l : List ℕ). ServesText Are Ends frame room most l p.text j.unread t.taken u.taken result) is
         (serves_text frame room most pending p.text j.unread t.taken u.taken result
         (runs_through (λ (state : S). false) Answered Ended frame room most old new pending c.unread j.unread t.taken u.taken result refl p));
     outcome = outcome;

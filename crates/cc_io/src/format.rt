@@ -15,4 +15,6 @@ pub enum Format {
     /// A header, and then the values of the columns, the address and the names of the permissions,
     /// with commas between.
     Csv,
+    /// One object of JSON.
+    Json,
 }

@@ -29,7 +29,7 @@ pub use numbered::{
 pub use page::{
     Line, MOST_LINE, MOST_PENDING, MOST_REPLY, MOST_TEXT, Page, Pending, Text, WholeLine,
 };
-pub use permissions::push_permissions;
+pub use permissions::{push_permissions, push_permissions_array};
 pub use pumping::{make_room, pump, write_and_flush};
 pub use refusals::{push_refusal, refusal_bytes, write_refusal};
 pub use slice_devices::{SliceSink, SliceSource};

@@ -1,8 +1,9 @@
 //! The permissions of a word by name.
-ghost use Rattle.std.specs.Prelude.{◌≡◌, ◌+◌, ◌≤◌, ◌++◌, length};
-ghost use Rattle.std.specs.List.{join_with_byte};
+ghost use Rattle.std.specs.Prelude.{◌≡◌, ◌+◌, ◌*◌, ◌≤◌, ◌++◌, length};
+ghost use Rattle.std.specs.List.{join_by};
 ghost use Rattle.cc_word.specs.Permissions.{bits_of};
-ghost use Rattle.cc_io.specs.Permissions.{names_of_set, permissions_text, names_length, rows_of};
+ghost use Rattle.cc_io.specs.Permissions.{in_quotes, names_length, names_of_set, permissions_array, permissions_text};
+ghost use Rattle.cc_io.specs.Permissions.{rows_of};
 
 use crate::page::Line;
 use bitflags::{Flag, Flags};
@@ -21,22 +22,50 @@ pub fn push_permissions(line: &mut Line, perms: Perms)
     if perms.bits() == 0 {
         line.push(b"-");
     } else {
-        push_names(line, perms, Perms::flags());
+        push_names(line, perms, Perms::flags(), b"", b"+");
     }
 }
 
-/// Appends the names of those of the flags that the set has, joined by `+`.
-fn push_names(line: &mut Line, perms: Perms, flags: &[Flag<Perms>])
-    requires { length line.old + names_length (rows_of flags.now) ≤ 192 }
-    ensures value { line.new ≡ line.old ++ join_with_byte 43 (names_of_set (bits_of perms) (rows_of flags.now)) }
-    ensures fits { length line.new ≤ length line.old + names_length (rows_of flags.now) }
+/// Appends the names of the permissions from bit 0 up as an array of JSON: at most 159 bytes.
+///
+/// Requires: 159 bytes of the line are free.
+#[tactic(auto, unfolding(crate::specs::Permissions::permissions_array))]
+pub fn push_permissions_array(line: &mut Line, perms: Perms)
+    requires { length line.old + 159 ≤ 192 }
+    ensures value { line.new ≡ line.old ++ permissions_array (bits_of perms) }
+    ensures fits { length line.new ≤ length line.old + 159 }
+{
+    line.push(b"[");
+    push_names(line, perms, Perms::flags(), b"\"", b",");
+    line.push(b"]");
+}
+
+/// Appends the names of those of the flags that the set has, each in these quotation marks, joined by
+/// this separator.
+fn push_names(line: &mut Line, perms: Perms, flags: &[Flag<Perms>], quote: &[u8], between: &[u8])
+    requires { length line.old + names_length (2 * length quote.now + length between.now) (rows_of flags.now) ≤ 192 }
+    ensures value { line.new ≡ line.old
+        ++ join_by (in_quotes quote.now) between.now (names_of_set (bits_of perms) (rows_of flags.now)) }
+    ensures fits { length line.new
+        ≤ length line.old + names_length (2 * length quote.now + length between.now) (rows_of flags.now) }
 {
     let mut separator: &[u8] = b"";
     for flag in flags {
         if perms.contains(*flag.value()) {
-            line.push(separator);
-            line.push(flag.name().as_bytes());
-            separator = b"+";
+            push_quoted(line, separator, quote, flag.name().as_bytes());
+            separator = between;
         }
     }
+}
+
+/// Appends a separator, and then a name in quotation marks.
+fn push_quoted(line: &mut Line, separator: &[u8], quote: &[u8], name: &[u8])
+    requires { length line.old + length separator.now + 2 * length quote.now + length name.now ≤ 192 }
+    ensures value { line.new ≡ line.old ++ separator.now ++ in_quotes quote.now name.now }
+    ensures fits { length line.new ≡ length line.old + length separator.now + 2 * length quote.now + length name.now }
+{
+    line.push(separator);
+    line.push(quote);
+    line.push(name);
+    line.push(quote);
 }

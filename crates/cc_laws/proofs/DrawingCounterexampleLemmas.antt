@@ -4,14 +4,13 @@ use Rattle.cc_bounds.specs.declared.span.Span.{Span}
 use Rattle.cc_bounds.specs.Span.{HasByte, length_of, span_from}
 use Rattle.cc_values.specs.declared.usage.Usage.{Usage}
 use Rattle.std.specs.List.{list_any}
-use Rattle.cc_io.specs.Text.{rest_text}
 use Rattle.cc_io.specs.Answers.{Answer, answers_text}
 use Rattle.cc_io.specs.declared.input_form.InputForm.{InputForm}
 use Rattle.cc_io.specs.declared.input_form.InputForm.TheVariants.{Lines}
 use Rattle.cc_draw.specs.Usage.{largest_of}
 use Rattle.cc_decode.specs.declared.options.Options.{Options}
 use Rattle.cc_decode.specs.Input.{input_entries, left_of}
-use Rattle.cc_decode.specs.Output.{AreAnswers}
+use Rattle.cc_decode.specs.Output.{AreAnswers, IsEnding}
 use Rattle.cc_decode.specs.Place.{options_after}
 use Rattle.cc_laws.specs.DrawnObjects.{AreHoles, CountsFreeBytes, IsDrawnExactly, IsFree}
 use Rattle.cc_laws.specs.ListingParts.{AreListingRows, RowsInParts}
@@ -74,8 +73,10 @@ nothing options rows any_error lines listing =
     let entries : input_entries options.input [] ≡ [] = ap (λ (input : InputForm). input_entries input []) lines in
     let left : left_of options.input [] ≡ [] = ap (λ (input : InputForm). left_of input []) lines in
     let none = no_answers options listing.answers (subst (λ (e : List (List ℕ)). AreAnswers options e listing.answers) entries listing.are_answers) in
+    let over : listing.ending ≡ [] =
+    subst (λ (rest : List ℕ). IsEnding (options_after options (length (input_entries options.input []))) rest listing.ending) left listing.is_ending in
     record {
-      rows_none = listing.rows_are ∙ (λ i. answers_text (none i) ++ rest_text (left i));
+      rows_none = listing.rows_are ∙ (λ i. answers_text (none i) ++ over i);
       error_none =
           listing.error_is
           ∙ (λ i. list_any (λ (answer : Answer). answer.is_error) (none i) || not (length (left i) == 0));

@@ -80,10 +80,12 @@ not_word is = let count : 1 ≡ 32 = is.0 in absurd (omega (arith, count))
 
 pub listing : (format : Format) (at : Option ℕ) (kind : Option Search) → WritesListing
     (record { input = Lines; format = format; at = at; search = kind }) (120 ∷ 10 ∷ []) (Some [])
-    (Some (header_of (record { input = Lines; format = format; at = at; search = kind }) ++ (refused_text kind ++ []) ++ [])) true
+    (Some (header_of (record { input = Lines; format = format; at = at; search = kind }) ++ (refused_text format kind ++ []) ++ [])) true
 listing format at kind = record {
-  answers = record { text = refused_text kind; is_error = true } ∷ [];
+  answers = record { text = refused_text format kind; is_error = true } ∷ [];
   are_answers = (inr (not_word, refl, refl), _);
+  ending = [];
+  is_ending = refl;
   written = refl;
   error_is = refl;
 }

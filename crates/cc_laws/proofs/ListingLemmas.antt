@@ -8,16 +8,17 @@ use Rattle.cc_bounds.specs.declared.span.Span.{Span}
 use Rattle.cc_bounds.specs.Decoding.{DecodesTo}
 use Rattle.cc_bounds.proofs.DecodingLemmas.{DecodesTo-same}
 use Rattle.cc_cap.specs.LineText.{IsWordLine, word_line_of}
-use Rattle.cc_io.specs.Text.{rest_text, with_line_feed}
+use Rattle.cc_word.specs.declared.refusal.Refusal.TheVariants.{Unfinished}
+use Rattle.cc_io.specs.Text.{with_line_feed}
 use Rattle.cc_io.specs.Answers.{Answer, answers_text}
 use Rattle.cc_cap.specs.WordTelling.{TellsWord}
 use Rattle.cc_decode.specs.Correct.{WritesListing}
 use Rattle.cc_decode.specs.Input.{input_entries, left_of, word_of_entry}
-use Rattle.cc_decode.specs.Output.{IsAnswer, IsRowLine, IsWordAnswer, AreAnswers}
-use Rattle.cc_decode.specs.Place.{after_entry, header_of, place_text}
-use Rattle.cc_decode.specs.Row.{IsWordRow, columns_text, csv_text, fixed_text}
+use Rattle.cc_decode.specs.Output.{IsAnswer, IsEnding, IsLastRow, IsRowLine, IsWordAnswer, AreAnswers, refusal_line}
+use Rattle.cc_decode.specs.Place.{after_entry, header_of, options_after, place_text}
+use Rattle.cc_decode.specs.Row.{IsWordRow, columns_text, csv_text, fixed_text, json_text}
 use Rattle.cc_io.specs.declared.format.Format.{Format}
-use Rattle.cc_io.specs.declared.format.Format.TheVariants.{Columns, Csv, Fixed, Text}
+use Rattle.cc_io.specs.declared.format.Format.TheVariants.{Columns, Csv, Fixed, Json, Text}
 use Rattle.cc_decode.specs.declared.options.Options.{Options}
 
 -- two tests of one fact have the same result
@@ -49,6 +50,7 @@ one_word_row Columns word one other p q = one_row columns_text word one other p 
 one_word_row Text word one other p q = one_line word one other p q
 one_word_row Fixed word one other p q = one_row fixed_text word one other p q
 one_word_row Csv word one other p q = one_row csv_text word one other p q
+one_word_row Json word one other p q = one_row json_text word one other p q
 
 one_row_line : (format : Format) (at : Option ℕ) (word : ℕ) (one other : List ℕ) → IsRowLine format at word one → IsRowLine format at word other → one ≡ other
 one_row_line format at word one other p q =
@@ -80,6 +82,17 @@ one_answers options (entry ∷ entries) (a ∷ rest) [] p q = absurd q
 one_answers options (entry ∷ entries) (a ∷ rest) (b ∷ bs) p q =
     ap₂ (λ (x : Answer) (xs : List Answer). x ∷ xs) (one_answer options entry a b p.0 q.0) (one_answers (after_entry options) entries rest bs p.1 q.1)
 
+one_ending : (options : Options) (rest one other : List ℕ) → IsEnding options rest one → IsEnding options rest other → one ≡ other
+one_ending options [] one other p q = p ∙ sym q
+one_ending options (byte ∷ rest) one other p q =
+    p.text_is ∙ ap (λ (row : List ℕ). row ++ refusal_line options.format Unfinished) (same_row p.row q.row p.is_row q.is_row) ∙ sym q.text_is
+  where
+    same_row : (a b : List ℕ) → IsLastRow options (byte ∷ rest) a → IsLastRow options (byte ∷ rest) b → a ≡ b
+    same_row a b (inl x) (inl y) = one_word_answer options (word_of_entry options.input (byte ∷ rest)) a b x.1 y.1
+    same_row a b (inl x) (inr y) = absurd (y.0 x.0)
+    same_row a b (inr x) (inl y) = absurd (x.0 y.0)
+    same_row a b (inr x) (inr y) = x.1 ∙ sym y.1
+
 appended : (xs bs cs : List ℕ) (u v : Option (List ℕ)) → Appends (Some xs) u bs → Appends (Some xs) v cs → bs ≡ cs → u ≡ v
 appended xs bs cs None v p q same = absurd p
 appended xs bs cs (Some ys) None p q same = absurd q
@@ -91,6 +104,8 @@ pub one_listing : (options : Options) (text taken : List ℕ) (one other : Optio
 one_listing options text taken one other any_error other_error p q =
     let rest : List ℕ = left_of options.input text in
     let same : p.answers ≡ q.answers = one_answers options (input_entries options.input text) p.answers q.answers p.are_answers q.are_answers in (
-      appended taken _ _ one other p.written q.written (ap (λ (l : List Answer). header_of options ++ answers_text l ++ rest_text rest) same),
+      appended taken _ _ one other p.written q.written
+          (ap₂ (λ (l : List Answer) (ending : List ℕ). header_of options ++ answers_text l ++ ending) same
+          (one_ending (options_after options (length (input_entries options.input text))) rest p.ending q.ending p.is_ending q.is_ending)),
       p.error_is ∙ ap (λ (l : List Answer). list_any (λ (answer : Answer). answer.is_error) l || not (length rest == 0)) same ∙ sym q.error_is,
     )

@@ -54,5 +54,5 @@ fn a_listing_of_a_line()
     ensures { (format : Format) (at : Option ℕ) (search : Option Search) → WritesListing
         (record { input = Lines; format = format; at = at; search = search }) (120 ∷ 10 ∷ []) (Some [])
         (Some (header_of (record { input = Lines; format = format; at = at; search = search }) ++
-        (refused_text search ++ []) ++ [])) true }
+        (refused_text format search ++ []) ++ [])) true }
 {}

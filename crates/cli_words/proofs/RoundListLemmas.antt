@@ -7,9 +7,10 @@ use Rattle.cc_io.specs.Answers.{Answer, AnswersAll, EndsWith, seen}
 use Rattle.cc_io.specs.Correct.{Pumps}
 use Rattle.cc_io.specs.Devices.{InputState, IsOutcome, OutputState}
 use Rattle.cc_io.specs.Frames.{lines}
+use Rattle.cc_io.specs.Serving.{RefusesRest}
 use Rattle.cc_io.specs.declared.summary.IoError.{IoError}
 use Rattle.cc_io.specs.declared.summary.Summary.{Summary}
-use Rattle.cc_io.proofs.ServingLemmas.{Makes, serves_pumped}
+use Rattle.cc_io.proofs.ServingLemmas.{Makes, refuses_rest, serves_pumped}
 use Rattle.cli_words.specs.BareDigits.{is_bare_line}
 use Rattle.cli_words.specs.RoundList.{IsLengthAnswer, AreLengthAnswers, AreRoundings, RoundsList}
 use Rattle.cli_words.specs.Rounder.{AnswersLength, RefusesLastBytes}
@@ -75,17 +76,18 @@ bare_stays old new [] ending e = ap (λ (r : Rounder). r.bare) e.2
 bare_stays old new (byte ∷ rest) ending e = e.2
 
 -- the replies of a rounder have its base
-makes : (old new : Rounder) → old.bare ≡ false → Makes AnswersLength RefusesLastBytes (AreRoundings old.base new.bare) old new
+makes : (old new : Rounder) → old.bare ≡ false → Makes AnswersLength RefusesLastBytes (AreRoundings old.base new.bare) RefusesRest old new
 makes old new unseen = record {
   are = λ each answers mid rest ending takes ends. (
     answers_are old mid each answers takes,
     bare_stays mid new rest ending ends ∙ bare_seen old mid each answers takes ∙ ap (λ (b : Bool). b || list_any is_bare_line each) unseen,
   );
-  refuses = λ mid next rest text is_error refuses. (refuses.0, refuses.1);
+  ends = λ each answers mid rest ending takes ends.
+      refuses_rest RefusesLastBytes (λ mid next rest text is_error refuses. (refuses.0, refuses.1)) each mid new rest ending ends;
 }
 
 -- what the pump promises of a rounder is what `round_list` promises
 pub rounds_pumped : (old new : Rounder) (pending : List ℕ) (c j : InputState) (t u : OutputState) (result : Result Summary IoError) → old.bare ≡ false → pending ≡ [] → IsOutcome j u result
     → Pumps (λ (state : Rounder). false) AnswersLength RefusesLastBytes lines 32768 264 old pending c.unread j.unread t.taken u.taken result new → RoundsList old.base new.bare c j t u result
 rounds_pumped old new pending c j t u result unseen none outcome p =
-    serves_pumped AnswersLength RefusesLastBytes (AreRoundings old.base new.bare) old new (makes old new unseen) lines 32768 264 pending [] c j t u result none outcome p
+    serves_pumped AnswersLength RefusesLastBytes (AreRoundings old.base new.bare) RefusesRest old new (makes old new unseen) lines 32768 264 pending [] c j t u result none outcome p

@@ -9,7 +9,7 @@ use Rattle.cc_io.specs.CommandOutput.{AnswersResult, IsRefusalLine, changed}
 use Rattle.cc_io.specs.Answers.{Answer}
 use Rattle.cc_io.specs.Devices.{InputState, OutputState}
 use Rattle.cc_io.specs.Frames.{lines}
-use Rattle.cc_io.specs.Serving.{Serves}
+use Rattle.cc_io.specs.Serving.{RefusesRest, Serves}
 use Rattle.cc_io.specs.declared.summary.IoError.{IoError}
 use Rattle.cc_io.specs.declared.summary.Summary.{Summary}
 use Rattle.cli_words.specs.BareDigits.{is_bare_line}
@@ -58,4 +58,4 @@ AreRoundings base bare lines answers = AreLengthAnswers base lines answers × (b
 -- least 264 were free before the last.
 abbrev pub RoundsList : (base : Option ℕ) (bare : Bool) (input input_now : InputState) (output output_now : OutputState) → Result Summary IoError → Type 0
 RoundsList base bare input input_now output output_now result =
-    Serves (AreRoundings base bare) lines 32768 264 [] input input_now output output_now result
+    Serves (AreRoundings base bare) RefusesRest lines 32768 264 [] input input_now output output_now result

@@ -1,9 +1,10 @@
-use Rattle.std.proofs.Common.{rules, ◌≡◌, ◌++◌, ◌∙◌, ap, List}
+use Rattle.std.proofs.Common.{rules, ◌≡◌, ◌++◌, ◌∙◌, ◌∷◌, [], ap, List, ℕ}
 use Rattle.std.proofs.lemmas.Bool.{ne_eqb}
-use Rattle.std.specs.List.{join_with_byte}
+use Rattle.std.specs.List.{join_by}
 use Rattle.bitflags.specs.Sets.{Row}
 use Rattle.cc_word.specs.Permissions.{bits_of, permission_table}
-use Rattle.cc_io.specs.Permissions.{names_of_set, permissions_text, rows_of}
+use Rattle.cc_io.specs.Permissions.{in_quotes, names_of_set, permissions_text, rows_of}
+use Rattle.cc_io.proofs.PermissionLemmas.{joined}
 use Rattle.cc_io.proofs.permissions.push_permissions.Goals as goal
 
 pub returns-else-bits-eq0-clause-value : goal.returns-else-bits-eq0-clause-value
@@ -13,4 +14,5 @@ returns-else-bits-eq0-clause-value c =
     let some = ne_eqb (bits_of c.args.perms) 0 (search rules) in
     rw some
     (c.push_names.ensures.value
-    ∙ ap (λ (l : List Row). c.args.line.now ++ join_with_byte 43 (names_of_set (bits_of c.args.perms) l)) rows)
+    ∙ ap (λ (l : List Row). c.args.line.now ++ join_by (in_quotes []) (43 ∷ []) (names_of_set (bits_of c.args.perms) l)) rows
+    ∙ ap (λ (l : List ℕ). c.args.line.now ++ l) (joined (names_of_set (bits_of c.args.perms) permission_table)))
