@@ -13,7 +13,7 @@ _cheri_cap() {
     map) options+=' --slots --align --svg' ;;
     replay) options+=' --format --align --realloc --sweep --min --pool --strict --summary --each --sizes --svg --script' ;;
     decode) options+=' --format --bytes --skip --count --at --holds --perms --unsealed' ;;
-    show) options+=' --line' ;;
+    show) options+=' --line --format' ;;
     explain) options+=' --svg --length --base' ;;
     annotate) ;;
     help)
@@ -40,7 +40,7 @@ _cheri_cap() {
       if [[ $command == replay ]]; then
         mapfile -t COMPREPLY < <(compgen -W 'own mtrace heaptrack ltrace' -- "$word")
       else
-        mapfile -t COMPREPLY < <(compgen -W 'columns text fixed csv' -- "$word")
+        mapfile -t COMPREPLY < <(compgen -W 'columns text fixed csv json' -- "$word")
       fi
       ;;
     --list)

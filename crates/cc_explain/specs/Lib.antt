@@ -1,6 +1,5 @@
 -- In reading order.
 pub mod Listing
-pub mod LineAnswer
 pub mod Steps
 pub mod Picture
 pub mod Explanation

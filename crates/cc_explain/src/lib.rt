@@ -10,7 +10,6 @@ mod picture;
 mod request;
 mod steps;
 mod window_drawing;
-mod word_line;
 
 pub use explained_request::push_explained_request;
 pub use explained_steps::{push_fields, push_mantissas, push_window_lines, push_word};
@@ -19,4 +18,3 @@ pub use listing::{push_listing, show_word};
 pub use picture::{Rows, push_picture, rows_of};
 pub use steps::{Steps, decoding_steps};
 pub use window_drawing::{draw_window, push_window_drawing};
-pub use word_line::show_line;

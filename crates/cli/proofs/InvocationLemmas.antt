@@ -129,37 +129,43 @@ align_one (Some text) read other =
 -- Each name of a format names one.
 format_read : (text : Text) → list_any (λ name. bytes_eq name text) format_names ≡ true → IsSome (format_named text)
 format_read text among =
-    go (bytes_eq (codes "columns") text) (bytes_eq (codes "text") text) (bytes_eq (codes "fixed") text) (bytes_eq (codes "csv") text) refl refl refl refl among
+    go (bytes_eq (codes "columns") text) (bytes_eq (codes "text") text) (bytes_eq (codes "fixed") text) (bytes_eq (codes "csv") text) (bytes_eq (codes "json") text)
+    refl refl refl refl refl among
   where
-    go : (columns line fixed csv : Bool) → bytes_eq (codes "columns") text ≡ columns → bytes_eq (codes "text") text ≡ line
-        → bytes_eq (codes "fixed") text ≡ fixed → bytes_eq (codes "csv") text ≡ csv
-        → (columns || (line || (fixed || (csv || false)))) ≡ true → IsSome (format_named text)
-    go true line fixed csv is one two three e = subst (λ (t : Text). IsSome (format_named t)) ((bytes_eq-Decides (codes "columns") text).0 is) refl
-    go false true fixed csv one is two three e = subst (λ (t : Text). IsSome (format_named t)) ((bytes_eq-Decides (codes "text") text).0 is) refl
-    go false false true csv one two is three e = subst (λ (t : Text). IsSome (format_named t)) ((bytes_eq-Decides (codes "fixed") text).0 is) refl
-    go false false false true one two three is e = subst (λ (t : Text). IsSome (format_named t)) ((bytes_eq-Decides (codes "csv") text).0 is) refl
-    go false false false false one two three four e = cc e
+    go : (columns line fixed csv json : Bool) → bytes_eq (codes "columns") text ≡ columns → bytes_eq (codes "text") text ≡ line
+        → bytes_eq (codes "fixed") text ≡ fixed → bytes_eq (codes "csv") text ≡ csv → bytes_eq (codes "json") text ≡ json
+        → (columns || (line || (fixed || (csv || (json || false))))) ≡ true → IsSome (format_named text)
+    go true line fixed csv json is one two three four e = subst (λ (t : Text). IsSome (format_named t)) ((bytes_eq-Decides (codes "columns") text).0 is) refl
+    go false true fixed csv json one is two three four e = subst (λ (t : Text). IsSome (format_named t)) ((bytes_eq-Decides (codes "text") text).0 is) refl
+    go false false true csv json one two is three four e = subst (λ (t : Text). IsSome (format_named t)) ((bytes_eq-Decides (codes "fixed") text).0 is) refl
+    go false false false true json one two three is four e = subst (λ (t : Text). IsSome (format_named t)) ((bytes_eq-Decides (codes "csv") text).0 is) refl
+    go false false false false true one two three four is e = subst (λ (t : Text). IsSome (format_named t)) ((bytes_eq-Decides (codes "json") text).0 is) refl
+    go false false false false false one two three four five e = cc e
 
 -- A format that is none of the others is columns.
 pub format_columns : (given : Option Text) → IfSome given (λ text. IsSome (format_named text)) → (given ≡ Some (codes "text") → ⊥) → (given ≡ Some (codes "fixed") → ⊥)
-    → (given ≡ Some (codes "csv") → ⊥) → IsChosen format_named Columns given Columns
-format_columns None read not_line not_fixed not_csv = refl
-format_columns (Some text) read not_line not_fixed not_csv =
-    go (bytes_eq text (codes "columns")) (bytes_eq text (codes "text")) (bytes_eq text (codes "fixed")) (bytes_eq text (codes "csv"))
+    → (given ≡ Some (codes "csv") → ⊥) → (given ≡ Some (codes "json") → ⊥) → IsChosen format_named Columns given Columns
+format_columns None read not_line not_fixed not_csv not_json = refl
+format_columns (Some text) read not_line not_fixed not_csv not_json =
+    go (bytes_eq text (codes "columns")) (bytes_eq text (codes "text")) (bytes_eq text (codes "fixed")) (bytes_eq text (codes "csv")) (bytes_eq text (codes "json"))
     (λ is. not_line (ap Some ((bytes_eq-Decides text (codes "text")).0 is))) (λ is. not_fixed (ap Some ((bytes_eq-Decides text (codes "fixed")).0 is)))
-    (λ is. not_csv (ap Some ((bytes_eq-Decides text (codes "csv")).0 is))) read
+    (λ is. not_csv (ap Some ((bytes_eq-Decides text (codes "csv")).0 is))) (λ is. not_json (ap Some ((bytes_eq-Decides text (codes "json")).0 is))) read
   where
-    named : (columns line fixed csv : Bool) → Option Format
-    named columns line fixed csv =
-        if columns then Some Columns else if line then Some format.Text else if fixed then Some format.Fixed else if csv then Some format.Csv else None
+    named : (columns line fixed csv json : Bool) → Option Format
+    named columns line fixed csv json =
+        if columns then Some Columns
+        else if line then Some format.Text
+        else if fixed then Some format.Fixed
+        else if csv then Some format.Csv else if json then Some format.Json else None
 
-    go : (columns line fixed csv : Bool) → (line ≡ true → ⊥) → (fixed ≡ true → ⊥) → (csv ≡ true → ⊥) → IsSome (named columns line fixed csv)
-        → named columns line fixed csv ≡ Some Columns
-    go true line fixed csv no_line no_fixed no_csv read = refl
-    go false true fixed csv no_line no_fixed no_csv read = absurd (no_line refl)
-    go false false true csv no_line no_fixed no_csv read = absurd (no_fixed refl)
-    go false false false true no_line no_fixed no_csv read = absurd (no_csv refl)
-    go false false false false no_line no_fixed no_csv read = cc read
+    go : (columns line fixed csv json : Bool) → (line ≡ true → ⊥) → (fixed ≡ true → ⊥) → (csv ≡ true → ⊥) → (json ≡ true → ⊥) → IsSome (named columns line fixed csv json)
+        → named columns line fixed csv json ≡ Some Columns
+    go true line fixed csv json no_line no_fixed no_csv no_json read = refl
+    go false true fixed csv json no_line no_fixed no_csv no_json read = absurd (no_line refl)
+    go false false true csv json no_line no_fixed no_csv no_json read = absurd (no_fixed refl)
+    go false false false true json no_line no_fixed no_csv no_json read = absurd (no_csv refl)
+    go false false false false true no_line no_fixed no_csv no_json read = absurd (no_json refl)
+    go false false false false false no_line no_fixed no_csv no_json read = cc read
 
 -- Each name of a format of a summary names one.
 summary_read : (text : Text) → list_any (λ name. bytes_eq name text) summary_names ≡ true → IsSome (summary_named text)
@@ -290,7 +296,10 @@ module _ (aligns : Bor (List (Bor Text))) (are : texts aligns.now ≡ codes "1" 
   help_gives c = record { default = no_default-given c (filled help_rule) refl; uses = λ again values rows e given. given }
 
   show_gives : GiveValues show.rules show.rules
-  show_gives = (flag_gives show.rules _ refl refl refl refl refl, (set_gives show.rules _ refl refl refl refl, (help_gives show.rules, tt)))
+  show_gives = (
+    flag_gives show.rules _ refl refl refl refl refl,
+    (set_gives show.rules _ refl refl refl refl, (set_gives show.rules _ refl refl refl refl, (help_gives show.rules, tt))),
+  )
 
   explain_gives : GiveValues explain.rules explain.rules
   explain_gives = (
@@ -424,8 +433,9 @@ module _ (aligns : Bor (List (Bor Text))) (are : texts aligns.now ≡ codes "1" 
   show_serves : Serves show
   show_serves words e choice =
       let rows = rows_after show.rules [] words in
-      let line = flag_served show words (codes "line") show_gives refl e in
-      (codes "show", rows, refl, ((required_given show words show_gives e).1.0 refl, line))
+      let format = has_choice format_named (codes "format") format_names format_read formats are_formats rows
+      (taken show.rules (codes "format") (filled (choice_option (codes "format") formats)) rows (level-given show [] words false [] show_gives e) refl) in
+      (codes "show", rows, refl, ((required_given show words show_gives e).1.1.0 refl, format))
 
   round_serves : Serves round
   round_serves words e choice = (codes "round", rows_after round.rules [] words, refl, choice)

@@ -25,7 +25,7 @@ use Rattle.cc_io.specs.declared.input_form.ByteOrder.TheVariants.{Little, Big}
 use Rattle.cc_io.specs.declared.input_form.InputForm.{InputForm}
 use Rattle.cc_io.specs.declared.input_form.InputForm.TheVariants.{Lines, Bytes}
 use Rattle.cc_io.specs.declared.format.Format.{Format}
-use Rattle.cc_io.specs.declared.format.Format.TheVariants.{Columns, Csv, Fixed}
+use Rattle.cc_io.specs.declared.format.Format.TheVariants.{Columns, Csv, Fixed, Json}
 use Rattle.cc_io.specs.declared.format.Format.TheVariants as format
 use Rattle.cli.specs.declared.invocation.Invocation.{Invocation}
 use Rattle.cli.specs.declared.invocation.Invocation.TheVariants.{Annotate, Ask, Decode, Map, Plan, Replay, RoundList, Run}
@@ -69,6 +69,7 @@ format_named text =
     else if bytes_eq text (codes "text") then Some format.Text
     else if bytes_eq text (codes "fixed") then Some Fixed
     else if bytes_eq text (codes "csv") then Some Csv
+    else if bytes_eq text (codes "json") then Some Json
     else None
 
 -- The format of a summary that a text names, if it names one.
@@ -91,9 +92,15 @@ IsGiven value given = IsTrue given ↔ (value ≡ Some (codes "true"))
 abbrev pub is_on : (value : Option Text) → Bool
 is_on value = option_map_or (λ text. bytes_eq text (codes "true")) value false
 
+-- The format of `show`: the one that `--format` names, the line with `--line`, or none without both.
+abbrev pub shown_format : (line : Bool) (given : Option Text) → Option Format
+shown_format line (Some text) = format_named text
+shown_format true None = Some format.Text
+shown_format false None = None
+
 -- The name of the command that asks the question.
 abbrev pub question_command : Question → Text
-question_command (Show word as_line) = codes "show"
+question_command (Show word format) = codes "show"
 question_command (Round base size) = codes "round"
 question_command (Explain word) = codes "explain"
 question_command (DrawWindow word) = codes "explain"
@@ -174,7 +181,9 @@ HasBase rows (Some base) = (text : Text) × (first_of (codes "base") rows ≡ So
 -- `HasTexts` holds if the texts of the question are the values that clap found. The arguments of `explain` that the
 -- question has no text for have no value, and a missing `--base` is `0`.
 abbrev pub HasTexts : List Row → Question → Type 0
-HasTexts rows (Show word as_line) = (first_of (codes "word") rows ≡ Some word.now) × IsGiven (first_of (codes "line") rows) as_line
+HasTexts rows (Show word format) =
+    (first_of (codes "word") rows ≡ Some word.now)
+    × (format ≡ shown_format (is_on (first_of (codes "line") rows)) (first_of (codes "format") rows))
 HasTexts rows (Round base size) =
     HasBase rows base × (first_of (codes "list") rows ≡ None) × (first_of (codes "length") rows ≡ Some size.now)
 HasTexts rows (Explain word) = HasWordAlone rows word.now × (is_on (first_of (codes "svg") rows) ≡ false)
@@ -208,7 +217,7 @@ HasValues rows (RoundList base file) =
 abbrev pub IsInvocation : Option (Text × List Row) → Invocation → Type 0
 IsInvocation found invocation = (rows : List Row) × (found ≡ Some (command_name_of invocation, rows)) × HasValues rows invocation
 
--- ---- what clap does not check of the values of `explain`, `round` and `decode`: that they are accepted together, and are numbers or
+-- ---- what clap does not check of the values of `explain`, `round`, `decode` and `show`: that they are accepted together, and are numbers or
 -- permissions
 
 -- The kind of error of a value, if it is not of its form.
@@ -248,12 +257,19 @@ search_fault_of rows = value_fault
     && (is_read address_in (first_of (codes "at") rows)
     && (is_read address_in (first_of (codes "holds") rows) && is_read permissions_in (first_of (codes "perms") rows)))))
 
--- The kind of error of these values of the command of this name, if there is one: only `explain`, `round` and `decode` have one.
+-- The kind of error of the values of `show` in these rows, if there is one: `--line` excludes `--format`.
+abbrev pub show_fault_of : List Row → Option ErrorKind
+show_fault_of rows =
+    if is_on (first_of (codes "line") rows) && is_some (first_of (codes "format") rows) then Some ArgumentConflict else None
+
+-- The kind of error of these values of the command of this name, if there is one: only `explain`, `round`, `decode` and `show` have
+-- one.
 abbrev pub named_fault : (name : Text) → List Row → Option ErrorKind
 named_fault name rows =
     if bytes_eq name (codes "explain") then choice_fault_of rows
     else if bytes_eq name (codes "round") then list_fault_of rows
     else if bytes_eq name (codes "decode") then search_fault_of rows
+    else if bytes_eq name (codes "show") then show_fault_of rows
     else None
 
 -- The kind of error of the values of the command that clap found, if there is one.
@@ -307,7 +323,7 @@ HasChoice named name rows = IfSome (first_of name rows) (λ text. IsSome (named 
 -- `HasWanted` holds if the command of this name is one of the program's, and has the values that it needs.
 abbrev pub HasWanted : Text → List Row → Type 0
 HasWanted name rows =
-    cond (bytes_eq name (codes "show")) (HasText (codes "word") rows × HasFlag (codes "line") rows)
+    cond (bytes_eq name (codes "show")) (HasText (codes "word") rows × HasChoice format_named (codes "format") rows)
     (cond (bytes_eq name (codes "round")) (list_fault_of rows ≡ None)
     (cond (bytes_eq name (codes "run")) (HasLimit rows × HasFlag (codes "stats") rows)
     (cond (bytes_eq name (codes "plan")) (HasPoolTexts rows × HasLimit rows × HasChoice align_named (codes "align") rows × HasFlag (codes "stats") rows)

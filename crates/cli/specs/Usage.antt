@@ -35,9 +35,11 @@ slots_option = record (valued_option (codes "slots")) { parser = Some (Signed (p
 abbrev pub flag_option : Text → Rule
 flag_option name = record (new_rule name) { long = Some name; action = Some SetTrue }
 
--- The command `show [--line] WORD`.
-abbrev pub show_command : App
-show_command = with_rule (with_rule (new_app (codes "show")) (flag_option (codes "line"))) (wanted_argument (codes "word"))
+-- The command `show [--line] [--format FORMAT] WORD`.
+abbrev pub show_command : (formats : Bor (List (Bor Text))) → App
+show_command formats =
+    let options = with_rule (with_rule (new_app (codes "show")) (flag_option (codes "line"))) (choice_option (codes "format") formats) in
+    with_rule options (wanted_argument (codes "word"))
 
 -- The command `explain [--svg] [--length N] [--base B] [WORD]`.
 abbrev pub explain_command : App
@@ -100,7 +102,7 @@ replay_command aligns summaries =
 
 -- The names of the formats.
 abbrev pub format_names : List Text
-format_names = codes "columns" ∷ codes "text" ∷ codes "fixed" ∷ codes "csv" ∷ []
+format_names = codes "columns" ∷ codes "text" ∷ codes "fixed" ∷ codes "csv" ∷ codes "json" ∷ []
 
 -- The names of the byte orders.
 abbrev pub order_names : List Text
@@ -137,8 +139,8 @@ bare_program = let bare = new_app (codes "cheri-cap") in record bare {
 }
 
 -- A program with `show` and `round` added.
-abbrev pub with_words : App → App
-with_words program = with_subcommand (with_subcommand program show_command.top) round_command.top
+abbrev pub with_words : App → (formats : Bor (List (Bor Text))) → App
+with_words program formats = with_subcommand (with_subcommand program (show_command formats).top) round_command.top
 
 -- A program with `run`, `plan` and `map` added.
 abbrev pub with_scripts : App → Bor (List (Bor Text)) → App
@@ -149,7 +151,7 @@ with_scripts program aligns =
 -- The program with all commands except `explain`.
 abbrev pub listed_commands : (aligns formats orders summaries : Bor (List (Bor Text))) → App
 listed_commands aligns formats orders summaries =
-    let replay = with_subcommand (with_scripts (with_words bare_program) aligns) (replay_command aligns summaries).top in
+    let replay = with_subcommand (with_scripts (with_words bare_program formats) aligns) (replay_command aligns summaries).top in
     let words = with_subcommand replay (decode_command formats orders).top in
     with_subcommand words annotate_command.top
 

@@ -23,20 +23,32 @@ pub(crate) const SHOW_ABOUT: &str = "Shows the fields of a capability word, one 
 pub(crate) const WORD_HELP: &str = "\
 The word: its 128 bits as 32 hexadecimal digits, the highest first, in either case";
 
+pub(crate) const SHOW_USAGE: &str = "cheri-cap show [OPTIONS] <WORD>";
+
+/// The message if the values of `show` do not go together.
+pub(crate) const SHOW_CHOICE: &str = "give either `--line` or `--format`";
+
 pub(crate) const LINE_HELP: &str =
     "Show the word on one line: its address, permissions, base and top";
 
+pub(crate) const SHOWN_FORMAT_HELP: &str =
+    "Show the word in a format of `cheri-cap decode`; not with --line";
+
 pub(crate) const SHOW_AFTER_HELP: &str = "\
 The word is in its memory form, in which the null capability is all zeros. Any 32 digits are a word,
-without 0x before them; with --line, they may have it. For any other input, prints `error 1 syntax`,
-with exit status 1.
+without 0x before them; with --line or --format, they may have it. For any other input, prints
+`error 1 syntax`, with exit status 1. With --format, prints what `cheri-cap decode` prints for a line
+with the word in it.
 
 The line shows a word as a tagged one: LOAD is r, STORE w, EXECUTE x, LOAD_CAP R and STORE_CAP W.
 (sentry) or (sealed) follows the bounds for a type that is not unsealed.
 
 Example:
   cheri-cap show --line ffff0000048190040000000000001000
-  0x1000 [rwxRW,0x1000-0x1200]";
+  0x1000 [rwxRW,0x1000-0x1200]
+
+  cheri-cap show --format json 02001fffc48190040000000000001000
+  {\"word\":\"02001fffc48190040000000000001000\",\"perms\":\"0200\",\"names\":[\"UNSEAL\"],\"reserved\":0,\"flag\":0,\"type\":\"00007\",\"address\":\"0x1000\",\"exponent\":0,\"base\":\"0x1000\",\"top\":\"0x1200\",\"canonical\":true}";
 
 pub(crate) const EXPLAIN_ABOUT: &str =
     "Explains how a capability word is decoded, step by step, or which bounds a request is granted";
@@ -317,8 +329,8 @@ pub(crate) const DECODE_USAGE: &str = "cheri-cap decode [OPTIONS] [FILE]";
 pub(crate) const DECODE_ABOUT: &str = "Decodes words, one on each line";
 
 pub(crate) const FORMAT_HELP: &str = "\
-Output format: `columns`; `text`, the one-line form of debuggers; `fixed`, columns of fixed width; or
-`csv`, comma-separated values [default: columns]";
+Output format: `columns`; `text`, the one-line form of debuggers; `fixed`, columns of fixed width;
+`csv`, comma-separated values; or `json`, an object for each word [default: columns]";
 
 pub(crate) const BYTES_HELP: &str = "\
 Read raw words of 16 bytes, the lowest byte first or the highest
@@ -350,8 +362,11 @@ Prints a line for each word, in order:
   fixed     columns of fixed width, so that `sort` and `awk` compare them as numbers: BASE and TOP
             have 17 digits, EXPONENT has 2 hexadecimal digits, and CANONICAL is 1 or 0
   csv       a header, and then the values of the columns, ADDRESS and NAMES with commas between
+  json      an object: the word, the fields and the bounds, ADDRESS, BASE and TOP as strings with 0x,
+            since many readers round numbers above 2^53, and the names of the permissions as an array
 For a line that is not a word, prints `error 1 syntax`. For an unterminated last line, or fewer than
-16 trailing bytes, prints `error 2 unfinished`. Each word is decoded independently, so parts of the
+16 trailing bytes, prints `error 2 unfinished`, after the line for the word if that line is one. In
+json, an error is an object: {\"error\":1,\"name\":\"syntax\"}. Each word is decoded independently, so parts of the
 input can be decoded separately; but with `--format csv` the output of each part begins with the
 header.
 

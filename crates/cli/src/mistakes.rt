@@ -4,7 +4,7 @@ ghost use Rattle.clap.specs.Words.{kind_of};
 
 use crate::help::{
     ADDRESS_FORM, DECODE_USAGE, EXPLAIN_CHOICE, EXPLAIN_USAGE, PERMISSIONS_FORM, ROUND_CHOICE,
-    ROUND_USAGE,
+    ROUND_USAGE, SHOW_CHOICE, SHOW_USAGE,
 };
 use crate::table::{Kind, Row, rows_named};
 use crate::values::{are_permissions, is_address, value_of};
@@ -46,6 +46,7 @@ fn mistake_of<'a>(
 fn usage<'a>(name: &'a str) -> &'a str {
     match name {
         "explain" => EXPLAIN_USAGE,
+        "show" => SHOW_USAGE,
         "round" => ROUND_USAGE,
         _ => DECODE_USAGE,
     }
@@ -54,6 +55,7 @@ fn usage<'a>(name: &'a str) -> &'a str {
 fn choice_message<'a>(name: &str) -> &'a str {
     match name {
         "explain" => EXPLAIN_CHOICE,
+        "show" => SHOW_CHOICE,
         _ => ROUND_CHOICE,
     }
 }

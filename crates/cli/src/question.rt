@@ -1,4 +1,5 @@
 //! A question about one word or one length.
+use cc_io::Format;
 
 /// The value of `--base`.
 #[derive(Clone, Copy)]
@@ -13,12 +14,12 @@ pub struct Base<'a> {
 /// of a word or a length.
 #[derive(Clone, Copy)]
 pub enum Question<'a> {
-    /// `show [--line] WORD`: the listing of a word, or its line.
+    /// `show [--line] [--format FORMAT] WORD`: the listing of a word, or its row in a format.
     Show {
         /// The word.
         word: &'a str,
-        /// Whether `--line` was given.
-        as_line: bool,
+        /// The format of the row: the line with `--line`. `None` for the listing.
+        format: Option<Format>,
     },
     /// `round [--base B] N`: how setting bounds rounds a length.
     Round {

@@ -7,7 +7,7 @@ ghost use Rattle.cli.specs.Invocation.{HasChoice, HasFlag, HasItsTexts, HasLimit
 ghost use Rattle.cli.specs.Invocation.{HasWanted, IsInvocation, IsProgram, align_named, choice_fault_in};
 ghost use Rattle.cli.specs.Invocation.{choice_fault_of, command_name_of, faults_of, format_named, format_names};
 ghost use Rattle.cli.specs.Invocation.{input_named, is_taken, kinds_in, list_fault_of, named_fault, order_names};
-ghost use Rattle.cli.specs.Invocation.{search_fault_of, summary_named, summary_names, value_fault};
+ghost use Rattle.cli.specs.Invocation.{search_fault_of, show_fault_of, summary_named, summary_names, value_fault};
 
 use crate::commands::program;
 use crate::invocation::Invocation;
@@ -15,7 +15,8 @@ use crate::mistakes::mistake;
 use crate::question::Question;
 use crate::values::{
     align_of, are_permissions, base_of, base_or_zero, decode_values, format_of, input_of,
-    is_address, is_given, is_on, limit_of, pool_texts, replay_texts, value_of, wanted_text,
+    is_address, is_given, is_on, limit_of, pool_texts, replay_texts, shown_format, value_of,
+    wanted_text,
 };
 use clap::error::ErrorKind;
 use clap::{ArgMatches, Error};
@@ -65,7 +66,7 @@ fn aligns<'a>() -> &'a [&'a str]
 fn formats<'a>() -> &'a [&'a str]
     ensures { texts result.now ≡ format_names }
 {
-    &["columns", "text", "fixed", "csv"]
+    &["columns", "text", "fixed", "csv", "json"]
 }
 
 /// Returns the values that `--bytes` accepts.
@@ -94,7 +95,7 @@ fn chosen<'a>(alloc: Global, matches: ArgMatches<'a>) -> Result<ArgMatches<'a>, 
     }
 }
 
-/// Returns the kind of error of the values of `explain`, `round` or `decode`, if there is one.
+/// Returns the kind of error of the values of `explain`, `round`, `decode` or `show`, if there is one.
 fn choice_fault(matches: &ArgMatches<'_>) -> Option<ErrorKind>
     ensures { result ≡ choice_fault_in (subcommand_rows_of matches.now) }
 {
@@ -112,7 +113,19 @@ fn named_fault(name: &str, values: &ArgMatches<'_>) -> Option<ErrorKind>
         "explain" => word_fault(values),
         "round" => list_fault(values),
         "decode" => search_fault(values),
+        "show" => show_fault(values),
         _ => None,
+    }
+}
+
+/// Returns the kind of error of the values of `show`, if there is one: `--line` excludes `--format`.
+fn show_fault(show: &ArgMatches<'_>) -> Option<ErrorKind>
+    ensures { result ≡ show_fault_of (rows_of (found_of show.now)) }
+{
+    if is_on(show, "line") && has_value(show, "format") {
+        Some(ErrorKind::ArgumentConflict)
+    } else {
+        None
     }
 }
 
@@ -213,13 +226,13 @@ fn read_command<'a>(name: &str, matches: &ArgMatches<'a>) -> Invocation<'a>
 
 fn read_show<'a>(matches: &ArgMatches<'a>) -> Invocation<'a>
     requires word { HasText (codes "word") (rows_of (found_of matches.now)) }
-    requires line { HasFlag (codes "line") (rows_of (found_of matches.now)) }
+    requires format { HasChoice format_named (codes "format") (rows_of (found_of matches.now)) }
     ensures command { command_name_of result ≡ codes "show" }
     ensures values { HasValues (rows_of (found_of matches.now)) result }
 {
     Invocation::Ask(Question::Show {
         word: wanted_text(matches, "word"),
-        as_line: is_given(matches, "line"),
+        format: shown_format(matches),
     })
 }
 

@@ -10,9 +10,9 @@ use crate::help::{
     PLAN_ABOUT, PLAN_AFTER_HELP, POOL_HELP, POOL_LENGTH_HELP, REALLOC_HELP, REPLAY_ABOUT,
     REPLAY_AFTER_HELP, REQUEST_BASE_HELP, REQUEST_LENGTH_HELP, ROUND_ABOUT, ROUND_AFTER_HELP,
     ROUND_BASE_HELP, RUN_ABOUT, RUN_AFTER_HELP, SCRIPT_HELP, SHOW_ABOUT, SHOW_AFTER_HELP,
-    SIZES_HELP, SKIP_HELP, SLOTS_HELP, STATS_HELP, STRICT_HELP, SUMMARY_HELP, SVG_HELP, SWEEP_HELP,
-    TEXT_FILE_HELP, TRACE_FILE_HELP, TRACE_FORMAT_HELP, UNSEALED_HELP, WINDOW_SVG_HELP, WORD_HELP,
-    WORDS_FILE_HELP,
+    SHOWN_FORMAT_HELP, SIZES_HELP, SKIP_HELP, SLOTS_HELP, STATS_HELP, STRICT_HELP, SUMMARY_HELP,
+    SVG_HELP, SWEEP_HELP, TEXT_FILE_HELP, TRACE_FILE_HELP, TRACE_FORMAT_HELP, UNSEALED_HELP,
+    WINDOW_SVG_HELP, WORD_HELP, WORDS_FILE_HELP,
 };
 
 /// The subject of the help of an argument.
@@ -20,6 +20,8 @@ use crate::help::{
 pub(crate) enum Topic {
     /// `LINE_HELP`.
     Line,
+    /// `SHOWN_FORMAT_HELP`.
+    ShownFormat,
     /// `WORD_HELP`.
     Word,
     /// `LENGTH_HELP`.
@@ -119,6 +121,7 @@ pub(crate) enum Page {
 pub(crate) fn help<'a>(topic: Topic) -> &'a str {
     match topic {
         Topic::Line => LINE_HELP,
+        Topic::ShownFormat => SHOWN_FORMAT_HELP,
         Topic::Word => WORD_HELP,
         Topic::Length => LENGTH_HELP,
         Topic::List => LIST_HELP,
@@ -250,6 +253,12 @@ const COMMANDS: &[CommandRow] = &[
                 name: "line",
                 placeholder: "",
                 topic: Topic::Line,
+            },
+            Row {
+                kind: Kind::Format,
+                name: "format",
+                placeholder: "FORMAT",
+                topic: Topic::ShownFormat,
             },
             Row {
                 kind: Kind::Wanted,

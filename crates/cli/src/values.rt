@@ -5,7 +5,7 @@ ghost use Rattle.cc_values.specs.Values.{address_in, permissions_in};
 ghost use Rattle.cli.specs.Invocation.{HasBase, HasChoice, HasDecodeValues, HasFlag, HasLimit, HasOutput, HasPool};
 ghost use Rattle.cli.specs.Invocation.{HasPoolTexts, HasReplayTexts, HasText, IsBase, IsChosen, IsGiven, IsLimit};
 ghost use Rattle.cli.specs.Invocation.{IsRead, align_named, format_named, input_named, is_on, is_read};
-ghost use Rattle.cli.specs.Invocation.{search_fault_of, summary_named};
+ghost use Rattle.cli.specs.Invocation.{search_fault_of, shown_format, summary_named};
 
 use crate::invocation::{DecodeValues, PoolTexts, ReplayOutput, ReplayTexts, SummaryFormat};
 use crate::question::Base;
@@ -213,7 +213,21 @@ pub(crate) fn format_of(matches: &ArgMatches<'_>) -> Format
         Some("text") => Format::Text,
         Some("fixed") => Format::Fixed,
         Some("csv") => Format::Csv,
+        Some("json") => Format::Json,
         _ => Format::Columns,
+    }
+}
+
+/// Returns the format of `show`: the value of `--format`, the line with `--line`, or none without both.
+pub(crate) fn shown_format(matches: &ArgMatches<'_>) -> Option<Format>
+    requires { HasChoice format_named (codes "format") (rows_of (found_of matches.now)) }
+    ensures { result ≡ shown_format (is_on (first_of (codes "line") (rows_of (found_of matches.now))))
+        (first_of (codes "format") (rows_of (found_of matches.now))) }
+{
+    match value_of(matches, "format") {
+        Some(_) => Some(format_of(matches)),
+        None if is_on(matches, "line") => Some(Format::Text),
+        None => None,
     }
 }
 

@@ -11,7 +11,8 @@ use crate::explaining_bounds::explain_length;
 use crate::number_hint::hint_numbers;
 use crate::rounding::show_round;
 use crate::word_hint::hint_word;
-use cc_explain::{draw_window, explain_word, show_line, show_word};
+use cc_decode::{Format, show_row};
+use cc_explain::{draw_window, explain_word, show_word};
 use cc_io::{IoError, Sink, Summary};
 use cli::{Base, Fault, Question};
 
@@ -61,7 +62,7 @@ fn answer<W: Sink, E: Sink>(
     ensures unreported { OnErr result (errors.new ≡ errors.old) }
 {
     match question {
-        Question::Show { word, as_line } => show(word, as_line, hints, sink, errors),
+        Question::Show { word, format } => show(word, format, hints, sink, errors),
         Question::Round { base, length } => round(base, length, hints, sink, errors),
         Question::Explain { word } => explain_word(word.as_bytes(), sink),
         Question::DrawWindow { word } => draw_window(word.as_bytes(), sink),
@@ -71,48 +72,47 @@ fn answer<W: Sink, E: Sink>(
     }
 }
 
-/// Writes the listing of a word, or its one-line form. Then writes the hint that the listing's word has no `0x` before
-/// it.
+/// Writes the listing of a word, or its row in a format. Then writes the hint that the listing's word has no `0x`
+/// before it.
 fn show<W: Sink, E: Sink>(
     word: &str,
-    as_line: bool,
+    format: Option<Format>,
     hints: bool,
     sink: &mut W,
     errors: &mut E,
 ) -> Result<Summary, IoError>
     requires sink { (W.state sink.old).has_failed ≡ false }
     requires errors { (E.state errors.old).has_failed ≡ false }
-    ensures answered { WritesAnswer (IsAnswerTo (question.Show word.entry as_line)) (W.state sink.old)
+    ensures answered { WritesAnswer (IsAnswerTo (question.Show word.entry format)) (W.state sink.old)
         (W.state sink.new) result }
     ensures any_error { IfOk result (λ summary. IsTrue summary.any_error
-        ↔ IsUnanswerable (question.Show word.entry as_line)) }
+        ↔ IsUnanswerable (question.Show word.entry format)) }
     ensures hinted { OnOk result ((E.state errors.new).has_failed ≡ false
         → Appends (E.state errors.old).taken (E.state errors.new).taken
-        (question_hint hints (question.Show word.entry as_line))) }
-    ensures silent { ¬ IsTrue (has_hint hints (question.Show word.entry as_line)) → errors.new ≡ errors.old }
+        (question_hint hints (question.Show word.entry format))) }
+    ensures silent { ¬ IsTrue (has_hint hints (question.Show word.entry format)) → errors.new ≡ errors.old }
     ensures unreported { OnErr result (errors.new ≡ errors.old) }
 {
-    match show_typed(word, as_line, sink) {
+    match show_typed(word, format, sink) {
         Ok(summary) => {
-            hint_word(hints && !as_line, word.as_bytes(), errors);
+            hint_word(hints && format.is_none(), word.as_bytes(), errors);
             Ok(summary)
         }
         Err(error) => Err(error),
     }
 }
 
-/// Writes the listing of a word, or its one-line form.
-fn show_typed<W: Sink>(word: &str, as_line: bool, sink: &mut W) -> Result<Summary, IoError>
+/// Writes the listing of a word, or its row in a format.
+fn show_typed<W: Sink>(word: &str, format: Option<Format>, sink: &mut W) -> Result<Summary, IoError>
     requires { (W.state sink.old).has_failed ≡ false }
-    ensures answered { WritesAnswer (IsAnswerTo (question.Show word.entry as_line)) (W.state sink.old)
+    ensures answered { WritesAnswer (IsAnswerTo (question.Show word.entry format)) (W.state sink.old)
         (W.state sink.new) result }
     ensures any_error { IfOk result (λ summary. IsTrue summary.any_error
-        ↔ IsUnanswerable (question.Show word.entry as_line)) }
+        ↔ IsUnanswerable (question.Show word.entry format)) }
 {
-    if as_line {
-        show_line(word.as_bytes(), sink)
-    } else {
-        show_word(word.as_bytes(), sink)
+    match format {
+        Some(format) => show_row(format, word.as_bytes(), sink),
+        None => show_word(word.as_bytes(), sink),
     }
 }
 

@@ -7,7 +7,7 @@ use Rattle.cli.proofs.reading.read_command.Goals as goal
 pub read_show-requires : goal.read_show-requires
 read_show-requires c =
     let wanted = subst (λ (name : Text). HasWanted name (rows_of (found_of c.args.matches.now))) c.in-show.is c.requires in
-    record { word = wanted.0; line = wanted.1 }
+    record { word = wanted.0; format = wanted.1 }
 
 pub returns-in-show : goal.returns-in-show
 returns-in-show c = record { command = c.read_show.ensures.command ∙ sym c.in-show.is; values = c.read_show.ensures.values }

@@ -30,16 +30,25 @@ returns-in-Some-csv c =
     c.value_of.ensures ∙ ap (option_map (λ s. s.now)) here.is ∙ ap Some here.is-csv in
     subst (λ (o : Option Text). IsChosen format_named format.Columns o format.Csv) (sym given) refl
 
+pub returns-in-Some-json : goal.returns-in-Some-json
+returns-in-Some-json c =
+    let f = found_of c.args.matches.now in
+    let here = c.in-Some-json in
+    let given : first_of (codes "format") (rows_of f) ≡ Some (codes "json") =
+    c.value_of.ensures ∙ ap (option_map (λ s. s.now)) here.is ∙ ap Some here.is-json in
+    subst (λ (o : Option Text). IsChosen format_named format.Columns o format.Json) (sym given) refl
+
 pub returns-in_default : goal.returns-in_default
 returns-in_default c =
     let f = found_of c.args.matches.now in
     let here = c.in_default in
     let given = c.value_of.ensures ∙ ap (option_map (λ s. s.now)) here.is in
     format_columns (first_of (codes "format") (rows_of f)) c.requires (λ is. here.not-text (cc (sym given ∙ is))) (λ is. here.not-fixed (cc (sym given ∙ is)))
-    (λ is. here.not-csv (cc (sym given ∙ is)))
+    (λ is. here.not-csv (cc (sym given ∙ is))) (λ is. here.not-json (cc (sym given ∙ is)))
 
 pub returns-in_default-2 : goal.returns-in_default-2
 returns-in_default-2 c =
     let f = found_of c.args.matches.now in
     let given = c.value_of.ensures ∙ ap (option_map (λ s. s.now)) c.in_default.is in
     format_columns (first_of (codes "format") (rows_of f)) c.requires (λ is. cc (sym given ∙ is)) (λ is. cc (sym given ∙ is)) (λ is. cc (sym given ∙ is))
+    (λ is. cc (sym given ∙ is))
