@@ -5,7 +5,7 @@ use Rattle.cc_values.specs.declared.reply.Reply.{Reply}
 use Rattle.cli_scripts.specs.Hints.{hints_of, hints_text}
 use Rattle.cc_machine.specs.Planned.{plan_of}
 use Rattle.cc_machine.specs.State.{State}
-use Rattle.cc_script.specs.declared.session.Session.{Session}
+use Rattle.cli_scripts.specs.declared.session.Session.{Session}
 use Rattle.cli_scripts.specs.Statistics.{statistics_text}
 use Rattle.cc_syntax.specs.Tally.{Exchange}
 use Rattle.cc_draw.specs.Usage.{IsUsage}

@@ -14,4 +14,5 @@ pub use maps::map_file;
 pub use memory::RunMemory;
 pub use report::{Report, Terminals};
 pub use runs::{plan_file, run_file};
+pub use session::Session;
 pub use statistics::show_statistics;

@@ -9,12 +9,13 @@ ghost use Rattle.cli.specs.Input.{IsFile, file_input};
 ghost use Rattle.cli_scripts.specs.Runs.{DrawsRun, MapsFile};
 
 use crate::memory::RunMemory;
+use crate::session::Session;
 use crate::statistics::show_statistics;
 use cc_bounds::Align;
 use cc_draw::{show_drawing, show_map};
 use cc_io::{Pending, Sink, Source, Summary, write_refusal};
 use cc_machine::Op;
-use cc_script::{Session, run_session};
+use cc_script::run_session;
 use cc_syntax::{plan_numbers, plan_opening};
 use cli::{Content, Discard, Fault, InputName, Inputs, PoolTexts, file_input};
 

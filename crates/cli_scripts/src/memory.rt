@@ -5,9 +5,8 @@ ghost use Rattle.cc_syntax.specs.Tally.{IsTally};
 ghost use Rattle.cli_scripts.specs.Report.{IsMachineUsage};
 
 use crate::report::machine_usage;
-use crate::session::new_session;
+use crate::session::{Session, new_session};
 use cc_machine::Machine;
-use cc_script::Session;
 use cc_values::Usage;
 use cli::{GlobalMemory, Memory};
 use std::alloc::AllocError;

@@ -7,11 +7,11 @@ ghost use Rattle.cli_scripts.specs.Report.{IsMachineUsage, WritesReport, report_
 
 use crate::hints::{Hints, show_hints};
 use crate::memory::RunMemory;
+use crate::session::Session;
 use crate::statistics::show_statistics;
 use cc_draw::usage_of;
 use cc_io::Sink;
 use cc_machine::{Len, Machine};
-use cc_script::Session;
 use cc_values::Usage;
 use std::alloc::{AllocError, Global};
 

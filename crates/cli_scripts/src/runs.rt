@@ -9,10 +9,11 @@ ghost use Rattle.cli_scripts.specs.Runs.{CompletesRun, PlansFile, ReportsRun, St
 
 use crate::memory::RunMemory;
 use crate::report::{Report, write_report};
+use crate::session::Session;
 use cc_bounds::Align;
 use cc_io::{Pending, Sink, Source, Summary, write_refusal};
 use cc_machine::{Len, Op};
-use cc_script::{Session, run_session};
+use cc_script::run_session;
 use cc_syntax::{plan_numbers, plan_opening};
 use cli::{Content, Fault, InputName, Inputs, PoolTexts, file_input};
 

@@ -1,11 +1,20 @@
-//! The session of a new machine.
+//! A new machine, and the counts of its replies.
 ghost use Rattle.std.specs.Prelude.{◌≡◌, ◌≤◌, [], IfOk};
 ghost use Rattle.cc_machine.specs.State.{initial_state};
 ghost use Rattle.cc_syntax.specs.Tally.{IsTally};
 
 use cc_machine::Machine;
-use cc_script::Session;
+use cc_syntax::Tally;
 use std::alloc::{AllocError, Global};
+
+/// A machine that replies to the lines of a script, and the counts of its replies.
+#[derive(Drop)]
+pub struct Session {
+    /// The machine.
+    pub machine: Machine,
+    /// The counts of the replies.
+    pub tally: Tally,
+}
 
 /// Creates the session of a new machine with at most `limit` slots and objects.
 pub(crate) fn new_session(alloc: Global, limit: u32) -> Result<Session, AllocError>
@@ -14,5 +23,8 @@ pub(crate) fn new_session(alloc: Global, limit: u32) -> Result<Session, AllocErr
     ensures machine { IfOk result (λ session. session.machine ≡ initial_state limit) }
     ensures fresh { IfOk result (λ session. IsTally [] [] session.tally) }
 {
-    Ok(Session::new(Machine::with_limit(alloc, limit)?))
+    Ok(Session {
+        machine: Machine::with_limit(alloc, limit)?,
+        tally: Tally::new(),
+    })
 }
