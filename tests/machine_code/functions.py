@@ -1,4 +1,7 @@
 """The scalar functions of include/cheri_cap.h: the arguments of each, the layout of its result in memory, and the result by model.py."""
+import re
+from pathlib import Path
+
 import model
 import z3
 from model import CANONICAL, EXCEEDS, INEXACT, MISMATCH, PERMISSION, SEALED, TYPE, UNREPRESENTABLE, UNSEALED, Fields, Granted, bits, bv, ext
@@ -382,8 +385,8 @@ INLINE = {
 }
 FUNCTIONS |= INLINE
 # not proved here: loops over arrays, and a text of some length
-OTHERS = """decode_many is_canonical_many represents_many set_bounds_many round_length_many alignment_mask_many decode_memory is_canonical_memory
-represents_memory search_memory set_bounds_memory format""".split()
+HEADER = Path(__file__).resolve().parents[2] / "include/cheri_cap.h"
+OTHERS = [*re.findall(r"^size_t cheri_cap_(\w+_(?:many|memory))\(", HEADER.read_text(encoding="utf-8"), flags=re.MULTILINE), "format"]
 
 # not proved either: a pointer to a name, and, for an argument that the compiler does not know, the two that the file above has for each value of it
 OTHER_INLINE = "refusal_name word_from_bytes word_to_bytes".split()
