@@ -28,7 +28,7 @@ HasAll-unsealed permissions authority =
 pub ruleset permissions_stay = (HasAll-masked, HasAll-unsealed)
 
 -- if one set has all of two, and two all of three, then one has all of three
-HasAll-chain : (one two three : ℕ) → HasAll one two → HasAll two three → HasAll one three
+pub HasAll-chain : (one two three : ℕ) → HasAll one two → HasAll two three → HasAll one three
 HasAll-chain one two three first second =
     ap (bit_and one) (sym second) ∙ sym (and_assoc three one two) ∙ ap (λ (n : ℕ). bit_and n three) first ∙ second
 

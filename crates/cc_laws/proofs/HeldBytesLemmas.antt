@@ -141,9 +141,9 @@ module _ (state : State) (keeps : Keeps state) (laws : KeepsObjectLaws state) wh
       by_pool (Some number) is =
           let there = keeps.pool number is in
           let some : pool_capability state ≡ Some there.slot.capability = pool_capability-is state number there.slot is there.is_slot in
-          let span = keeps.spans number there.slot there.is_slot in
+          let is_cap = keeps.holds number there.slot there.is_slot in
           subst (λ (p : Option Capability). ArePlaced (unwrap_or (option_map (λ c. c.span) p) (from_zero 0)) (plan_of state).objects) (sym some)
-          (placed-by there.slot.capability.span span.in_order
+          (placed-by there.slot.capability.span is_cap.is_span.in_order
           (planned-within number there.slot (record { is_pool = is; is_slot = there.is_slot })))
 
 -- so they are in every reached state

@@ -13,7 +13,6 @@ mod SmallerLemmas
 mod LowestLemmas
 mod ChartLemmas
 mod ScaleLemmas
-mod CapabilityLemmas
 mod StepCounterexampleLemmas
 mod BelongingLemmas
 mod StepTotalLemmas

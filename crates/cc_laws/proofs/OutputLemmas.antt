@@ -11,7 +11,7 @@ use Rattle.cc_values.specs.declared.reply.Reply.{Reply}
 use Rattle.cc_syntax.specs.Planning.{plan_opening}
 use Rattle.cc_machine.specs.State.{State, initial_state}
 use Rattle.cc_machine.specs.Run.{Run}
-use Rattle.cc_laws.proofs.CapabilityLemmas.{HoldsCapabilities-reached}
+use Rattle.cc_machine.proofs.TreeLemmas.{Keeps-reached}
 use Rattle.cc_laws.proofs.StepTotalLemmas.{Run-outcome}
 use Rattle.cc_heap.specs.declared.settings.Settings.{Settings}
 use Rattle.cc_heap.specs.Heap.{empty_heap}
@@ -40,7 +40,7 @@ followed limit base size settings reading new text output any_error opening open
     let script = output_is_script settings reading new text output any_error is has_memory in
     let ready = (opened_ready limit base size settings.align opening opened opens accepted).0 in
     let span : IsSpan ready.slot.capability.span =
-    (HoldsCapabilities-reached opened ready.reached ready.number ready.slot ready.is_pool.is_slot).is_span in
+    ((Keeps-reached opened ready.reached).holds ready.number ready.slot ready.is_pool.is_slot).is_span in
     let pool_top : ready.slot.capability.span.top ≡ settings.pool.top =
     ap (λ (s : Span). s.top) (ready.pool_is ∙ sym pool_is) in
     let top : settings.pool.top ≤ 2 ^ 64 = omega (arith, span.top_fits, pool_top) in

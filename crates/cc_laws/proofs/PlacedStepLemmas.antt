@@ -25,7 +25,6 @@ use Rattle.cc_machine.specs.Objects.{IsLiveObject, IsObject, IsPool, freed_count
 use Rattle.cc_machine.specs.Planned.{plan_of, planned_object}
 use Rattle.cc_machine.specs.Run.{IsReached}
 use Rattle.cc_machine.specs.Step.{FreesObject, MakesObject, PlacesObject, Step}
-use Rattle.cc_laws.proofs.CapabilityLemmas.{HoldsCapabilities-reached}
 use Rattle.cc_machine.proofs.ObjectLawLemmas.{KeepsObjects-reached}
 use Rattle.cc_machine.proofs.ObjectLemmas.{IsObject-same}
 use Rattle.cc_machine.proofs.PlanLemmas.{plan_of-with_object, planned-stay, planned-swept, with_planned}
@@ -78,7 +77,7 @@ module _ (pool : Span) (align : Align) (limit made size start : ℕ) (old new : 
   small : size ≤ 2 ^ 64
   small =
       let is_span : IsSpan ready.slot.capability.span =
-      (HoldsCapabilities-reached old ready.reached ready.number ready.slot ready.is_pool.is_slot).is_span in
+      ((Keeps-reached old ready.reached).holds ready.number ready.slot ready.is_pool.is_slot).is_span in
       let top : ready.slot.capability.span.top ≡ pool.top = ap (λ (s : Span). s.top) ready.pool_is in
       let inside : start + padded_size_for align size ≤ pool.top = placement.place.in_pool.to_top in
       let enough = padded_for-enough align size in

@@ -196,7 +196,7 @@ KeepsSlots-effect old new op reply (sweeps sweep) = record {
 pub KeepsSlots-run : (old new : State) (ops : List Op) (replies : List Reply) → Keeps old → Run old ops replies new → KeepsSlots old new
 KeepsSlots-run old new [] [] keeps run = subst (λ (s : State). KeepsSlots old s) (sym run) (KeepsSlots-itself old)
 KeepsSlots-run old new (op ∷ ops) (reply ∷ replies) keeps run =
-    let effect = Step-effect old run.0 op reply keeps.spans keeps.pool run.1 in
+    let effect = Step-effect old run.0 op reply keeps.holds keeps.pool run.1 in
     KeepsSlots-chain old run.0 new (KeepsSlots-effect old run.0 op reply effect)
     (KeepsSlots-run run.0 new ops replies (Keeps-effect old run.0 op reply keeps effect) run.2)
 KeepsSlots-run old new [] (reply ∷ replies) keeps run = absurd run

@@ -42,7 +42,7 @@ use Rattle.cc_laws.specs.Counterexamples.{sealed_alone, child_unsealed, unsealed
 use Rattle.cc_laws.specs.Counterexamples.{reused_before_revocation, objects_past_the_pool, two_objects}
 use Rattle.cc_laws.specs.Counterexamples.{child_of_the_pool, child_in_another_object, child_tagged_after_sweep}
 use Rattle.cc_laws.specs.Counterexamples.{five_refusals, of_slots, first_slot, child_slot, bounded_root, powerless_root, counterexample_object}
-use Rattle.cc_machine.proofs.RuleLemmas.{GrantsNoMore-refl}
+use Rattle.cc_cap.proofs.DerivationLemmas.{GrantsNoMore-itself}
 
 -- ---- slots
 
@@ -254,7 +254,7 @@ child_sealed-breaks confined =
 pub five_refusals-break : ¬ ReachesAll root_alone (path_to root_capability 0 1) five_refusals root_alone
 five_refusals-break reaches =
     let ends = reaches 0 _ root_capability (record { found = refl }) refl refl (omega arith) root-IsCapability refl
-    (GrantsNoMore-refl root_capability) refl in
+    (GrantsNoMore-itself root_capability) refl in
     let e = ends.is_slot.found in
     cc
 

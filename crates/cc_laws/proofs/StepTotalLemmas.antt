@@ -40,7 +40,6 @@ use Rattle.cc_machine.proofs.StepLemmas.{usable-is}
 use Rattle.cc_machine.proofs.PlaceLemmas.{placed-exact}
 use Rattle.cc_machine.proofs.TreeLemmas.{Keeps, Keeps-reached}
 use Rattle.cc_machine.proofs.RunLemmas.{IsReached-step}
-use Rattle.cc_laws.proofs.CapabilityLemmas.{HoldsCapabilities-reached}
 use Rattle.cc_laws.proofs.BelongingLemmas.{dec-BelongsToFreed, mark_all}
 
 -- a reply and a state of which this is true
@@ -178,9 +177,8 @@ module _ (old : State) (holds : HoldsCapabilities old) (keeps : Keeps old) where
         };
       }
       by_place (inl place) =
-          let kept = keeps.spans pool slot is_pool.is_slot in
           let is_cap = holds pool slot is_pool.is_slot in
-          let exact = placed-exact old.align slot.capability.span (held_spans old) size unit place.start is_unit kept some place.is in
+          let exact = placed-exact old.align slot.capability.span (held_spans old) size unit place.start is_unit is_cap.is_span some place.is in
           let span : Span = span_at unit place.start size in
           let cap : Capability = capability_over span slot.capability in
           let word = has_word cap (record {
@@ -291,11 +289,11 @@ sweeps old keeps =
 pub Step-outcome : (old : State) (op : Op) → IsReached old → IsInAddressSpace op → HasOutcome (Step old op)
 Step-outcome old op reached fits = by_op op fits
   where
-    holds : HoldsCapabilities old
-    holds = HoldsCapabilities-reached old reached
-
     keeps : Keeps old
     keeps = Keeps-reached old reached
+
+    holds : HoldsCapabilities old
+    holds = keeps.holds
 
     by_op : (op : Op) → IsInAddressSpace op → HasOutcome (Step old op)
     by_op (Show number) fits = shows old holds number

@@ -114,7 +114,7 @@ pub object-run : (old new : State) (ops : List Op) (replies : List Reply) (numbe
     → IsObject old number object → ObjectLike new number object
 object-run old new [] [] number object keeps run is = subst (λ (s : State). ObjectLike s number object) (sym run) (own-like old number object is)
 object-run old new (op ∷ ops) (reply ∷ replies) number object keeps run is =
-    let effect = Step-effect old run.0 op reply keeps.spans keeps.pool run.1 in
+    let effect = Step-effect old run.0 op reply keeps.holds keeps.pool run.1 in
     let like = object-effect old run.0 op reply number object effect is in
     let next = object-run run.0 new ops replies number like.other (Keeps-effect old run.0 op reply keeps effect) run.2 like.is_object in
     record { other = next.other; is_object = next.is_object; same_slot = next.same_slot ∙ like.same_slot; same_size = next.same_size ∙ like.same_size }

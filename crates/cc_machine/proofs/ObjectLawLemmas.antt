@@ -58,7 +58,7 @@ KeepsObjects-effect old new op reply keeps objects (sweeps swept) =
 KeepsObjects-run : (old new : State) (ops : List Op) (replies : List Reply) → Keeps old → KeepsObjects old → Run old ops replies new → KeepsObjects new
 KeepsObjects-run old new [] [] keeps objects run = subst (λ (s : State). KeepsObjects s) (sym run) objects
 KeepsObjects-run old new (op ∷ ops) (reply ∷ replies) keeps objects run =
-    let effect = Step-effect old run.0 op reply keeps.spans keeps.pool run.1 in
+    let effect = Step-effect old run.0 op reply keeps.holds keeps.pool run.1 in
     KeepsObjects-run run.0 new ops replies (Keeps-effect old run.0 op reply keeps effect)
     (KeepsObjects-effect old run.0 op reply keeps objects effect) run.2
 KeepsObjects-run old new [] (reply ∷ replies) keeps objects run = absurd run

@@ -4,19 +4,14 @@ use Rattle.std.specs.Result.{result_map_both}
 use Rattle.std.specs.Prelude.{⊤}
 use Rattle.std.proofs.Common.{ℕ, Bool, true, false, ap, ◌≡◌, ◌∙◌, List, Option, Some, None, Result, Ok, Err, MatchResult, sym, subst}
 use Rattle.cc_word.specs.declared.refusal.Refusal.{Refusal}
-use Rattle.cc_word.specs.Permissions.{bits_of}
 use Rattle.cc_cap.specs.Capability.{Capability}
-use Rattle.cc_word.specs.declared.perms.Perms.{Perms}
-use Rattle.cc_cap.specs.Derivation.{SetsAddress, Increments, SetsBounds, SetsExactBounds, MasksPermissions, SetsFlag, Seals, Unseals, Rebuilds}
 use Rattle.cc_values.specs.declared.op.Op.{Op}
-use Rattle.cc_values.specs.declared.op.Op.TheVariants.{Bounds, Exact, Addr, Inc, Flag, Seal, Unseal, Rebuild}
-use Rattle.cc_values.specs.declared.op.Op.TheVariants as op
 use Rattle.cc_values.specs.declared.reply.Reply.{Reply}
 use Rattle.cc_machine.specs.declared.slot.Slot.{Slot}
 use Rattle.cc_machine.specs.State.{State, SlotState, tagged_slot, IsSlot}
 use Rattle.cc_machine.specs.Step.{usable, usable_slot, OnSlot, Derives, Step}
 use Rattle.cc_machine.specs.Making.{IsMade, Makes}
-use Rattle.cc_machine.proofs.GrowthLemmas.{OnSlot-usable_slot}
+use Rattle.cc_machine.proofs.DerivingLemmas.{OnSlot-usable_slot}
 
 -- a rule that holds of the capability of a usable slot
 pub OnSlot-usable : (slots : List SlotState) (number : ℕ) (result : Result Capability Refusal) (slot : SlotState)
@@ -65,53 +60,13 @@ looked-up slots number result Rule on = by_used (usable_slot slots number) on
     by_used (Err refusal) is = is
 
 -- an operation makes the result of a rule for a slot, if its step is to derive by the rule
-derived : (old : State) (op : Op) (number : ℕ) (Rule : Capability → Result Capability Refusal → Type 0) (result : Result Capability Refusal)
+pub derived : (old : State) (op : Op) (number : ℕ) (Rule : Capability → Result Capability Refusal → Type 0) (result : Result Capability Refusal)
     → OnSlot old.slots number result (λ cap. Rule cap result) → ((reply : Reply) (new : State) → Derives old number Rule reply new → Step old op reply new)
     → Makes old op number result
 derived old op number Rule result made is_step = record {
   used = looked-up old.slots number result (λ cap. Rule cap result) made;
   step = λ reply new added. is_step reply new (record { result = result; made = made; added = added });
 }
-
-pub makes-bounds : (old : State) (number size : ℕ) (result : Result Capability Refusal)
-    → OnSlot old.slots number result (λ cap. SetsBounds cap size result) → Makes old (Bounds number size) number result
-makes-bounds old number size result made = derived old (Bounds number size) number (λ cap made. SetsBounds cap size made) result made (λ reply new step. step)
-
-pub makes-exact : (old : State) (number size : ℕ) (result : Result Capability Refusal)
-    → OnSlot old.slots number result (λ cap. SetsExactBounds cap size result) → Makes old (Exact number size) number result
-makes-exact old number size result made = derived old (Exact number size) number (λ cap made. SetsExactBounds cap size made) result made (λ reply new step. step)
-
-pub makes-addr : (old : State) (number address : ℕ) (result : Result Capability Refusal)
-    → OnSlot old.slots number result (λ cap. SetsAddress cap address result) → Makes old (Addr number address) number result
-makes-addr old number address result made = derived old (Addr number address) number (λ cap made. SetsAddress cap address made) result made (λ reply new step. step)
-
-pub makes-inc : (old : State) (number amount : ℕ) (result : Result Capability Refusal)
-    → OnSlot old.slots number result (λ cap. Increments cap amount result) → Makes old (Inc number amount) number result
-makes-inc old number amount result made = derived old (Inc number amount) number (λ cap made. Increments cap amount made) result made (λ reply new step. step)
-
-pub makes-perms : (old : State) (number : ℕ) (mask : Perms) (result : Result Capability Refusal)
-    → OnSlot old.slots number result (λ cap. MasksPermissions cap (bits_of mask) result) → Makes old (op.Perms number mask) number result
-makes-perms old number mask result made =
-    derived old (op.Perms number mask) number (λ cap made. MasksPermissions cap (bits_of mask) made) result made (λ reply new step. step)
-
-pub makes-flag : (old : State) (number : ℕ) (flag : Bool) (result : Result Capability Refusal)
-    → OnSlot old.slots number result (λ cap. SetsFlag cap flag result) → Makes old (Flag number flag) number result
-makes-flag old number flag result made = derived old (Flag number flag) number (λ cap made. SetsFlag cap flag made) result made (λ reply new step. step)
-
-pub makes-seal : (old : State) (number authority : ℕ) (result : Result Capability Refusal)
-    → OnSlot old.slots number result (λ cap. OnSlot old.slots authority result (λ by. Seals cap by result)) → Makes old (Seal number authority) number result
-makes-seal old number authority result made =
-    derived old (Seal number authority) number (λ cap made. OnSlot old.slots authority made (λ by. Seals cap by made)) result made (λ reply new step. step)
-
-pub makes-unseal : (old : State) (number authority : ℕ) (result : Result Capability Refusal)
-    → OnSlot old.slots number result (λ cap. OnSlot old.slots authority result (λ by. Unseals cap by result))
-    → Makes old (Unseal number authority) number result
-makes-unseal old number authority result made =
-    derived old (Unseal number authority) number (λ cap made. OnSlot old.slots authority made (λ by. Unseals cap by made)) result made (λ reply new step. step)
-
-pub makes-rebuild : (old : State) (authority word : ℕ) (result : Result Capability Refusal)
-    → OnSlot old.slots authority result (λ by. Rebuilds by word result) → Makes old (Rebuild authority word) authority result
-makes-rebuild old authority word result made = derived old (Rebuild authority word) authority (λ by made. Rebuilds by word made) result made (λ reply new step. step)
 
 -- a slot that exists and is tagged
 pub record IsTagged (state : State) (number : ℕ) : Type 0 where

@@ -1,5 +1,5 @@
-use Rattle.cc_laws.proofs.CapabilityLemmas.{HoldsCapabilities-reached}
+use Rattle.cc_machine.proofs.TreeLemmas.{Keeps-reached}
 use Rattle.cc_laws.proofs.machine.slots_hold_capabilities.Goals as goal
 
 pub returns : goal.returns
-returns c = HoldsCapabilities-reached
+returns c state reached = (Keeps-reached state reached).holds

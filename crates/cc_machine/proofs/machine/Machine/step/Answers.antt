@@ -1,8 +1,15 @@
+use Rattle.std.proofs.Common.{ℕ, Bool, Result}
+use Rattle.cc_word.specs.declared.refusal.Refusal.{Refusal}
+use Rattle.cc_word.specs.declared.perms.Perms.{Perms}
+use Rattle.cc_word.specs.Permissions.{bits_of}
+use Rattle.cc_cap.specs.Capability.{Capability}
+use Rattle.cc_cap.specs.Derivation.{SetsAddress, Increments, SetsBounds, SetsExactBounds, MasksPermissions, SetsFlag, Seals, Unseals, Rebuilds}
 use Rattle.cc_values.specs.declared.op.Op.{Op}
-use Rattle.cc_values.specs.declared.op.Op.TheVariants.{Pool, Alloc, Free, Sweep}
+use Rattle.cc_values.specs.declared.op.Op.TheVariants.{Bounds, Exact, Addr, Inc, Flag, Seal, Unseal, Rebuild, Pool, Alloc, Free, Sweep}
+use Rattle.cc_values.specs.declared.op.Op.TheVariants as op
 use Rattle.cc_values.specs.declared.reply.Reply.{Reply}
 use Rattle.cc_machine.specs.State.{State}
-use Rattle.cc_machine.specs.Step.{Step}
+use Rattle.cc_machine.specs.Step.{OnSlot, Step}
 use Rattle.cc_machine.specs.Making.{Makes}
 use Rattle.cc_machine.specs.Laws.{IsMonotonicTree, HasSealingAuthority}
 use Rattle.cc_machine.specs.ObjectLaws.{KeepsObjectLaws}
@@ -11,11 +18,51 @@ use Rattle.cc_machine.proofs.RunLemmas.{IsReached-step}
 use Rattle.cc_machine.proofs.TreeLemmas.{Keeps-reached, IsMonotonicTree-reached, HasSealingAuthority-reached}
 use Rattle.cc_machine.proofs.ObjectLawLemmas.{KeepsObjectLaws-reached}
 use Rattle.cc_machine.proofs.GrowthLemmas.{refused-same}
-use Rattle.cc_machine.proofs.StepLemmas.{Makes-along, makes-addr, makes-bounds, makes-exact, makes-flag, makes-inc, makes-perms, makes-rebuild, makes-seal, makes-unseal}
+use Rattle.cc_machine.proofs.StepLemmas.{Makes-along, derived}
 use Rattle.cc_machine.proofs.machine.Machine.step.Goals as goal
 use Rattle.cc_machine.proofs.machine.Machine.step.Goals.{in-Bounds, in-Exact, in-Addr, in-Inc, in-Perms, in-Flag, in-Seal, in-Unseal, in-Rebuild}
 
 -- ---- what derives
+
+makes-bounds : (old : State) (number size : ℕ) (result : Result Capability Refusal)
+    → OnSlot old.slots number result (λ cap. SetsBounds cap size result) → Makes old (Bounds number size) number result
+makes-bounds old number size result made = derived old (Bounds number size) number (λ cap made. SetsBounds cap size made) result made (λ reply new step. step)
+
+makes-exact : (old : State) (number size : ℕ) (result : Result Capability Refusal)
+    → OnSlot old.slots number result (λ cap. SetsExactBounds cap size result) → Makes old (Exact number size) number result
+makes-exact old number size result made = derived old (Exact number size) number (λ cap made. SetsExactBounds cap size made) result made (λ reply new step. step)
+
+makes-addr : (old : State) (number address : ℕ) (result : Result Capability Refusal)
+    → OnSlot old.slots number result (λ cap. SetsAddress cap address result) → Makes old (Addr number address) number result
+makes-addr old number address result made = derived old (Addr number address) number (λ cap made. SetsAddress cap address made) result made (λ reply new step. step)
+
+makes-inc : (old : State) (number amount : ℕ) (result : Result Capability Refusal)
+    → OnSlot old.slots number result (λ cap. Increments cap amount result) → Makes old (Inc number amount) number result
+makes-inc old number amount result made = derived old (Inc number amount) number (λ cap made. Increments cap amount made) result made (λ reply new step. step)
+
+makes-perms : (old : State) (number : ℕ) (mask : Perms) (result : Result Capability Refusal)
+    → OnSlot old.slots number result (λ cap. MasksPermissions cap (bits_of mask) result) → Makes old (op.Perms number mask) number result
+makes-perms old number mask result made =
+    derived old (op.Perms number mask) number (λ cap made. MasksPermissions cap (bits_of mask) made) result made (λ reply new step. step)
+
+makes-flag : (old : State) (number : ℕ) (flag : Bool) (result : Result Capability Refusal)
+    → OnSlot old.slots number result (λ cap. SetsFlag cap flag result) → Makes old (Flag number flag) number result
+makes-flag old number flag result made = derived old (Flag number flag) number (λ cap made. SetsFlag cap flag made) result made (λ reply new step. step)
+
+makes-seal : (old : State) (number authority : ℕ) (result : Result Capability Refusal)
+    → OnSlot old.slots number result (λ cap. OnSlot old.slots authority result (λ by. Seals cap by result)) → Makes old (Seal number authority) number result
+makes-seal old number authority result made =
+    derived old (Seal number authority) number (λ cap made. OnSlot old.slots authority made (λ by. Seals cap by made)) result made (λ reply new step. step)
+
+makes-unseal : (old : State) (number authority : ℕ) (result : Result Capability Refusal)
+    → OnSlot old.slots number result (λ cap. OnSlot old.slots authority result (λ by. Unseals cap by result))
+    → Makes old (Unseal number authority) number result
+makes-unseal old number authority result made =
+    derived old (Unseal number authority) number (λ cap made. OnSlot old.slots authority made (λ by. Unseals cap by made)) result made (λ reply new step. step)
+
+makes-rebuild : (old : State) (authority word : ℕ) (result : Result Capability Refusal)
+    → OnSlot old.slots authority result (λ by. Rebuilds by word result) → Makes old (Rebuild authority word) authority result
+makes-rebuild old authority word result made = derived old (Rebuild authority word) authority (λ by made. Rebuilds by word made) result made (λ reply new step. step)
 
 makes : (c : goal.After-add) → Makes c.args.self.now c.args.op.now c.match-op.parent.0 c.match-op.parent.1
 makes c = elim c.match-op.branch [
@@ -55,7 +102,7 @@ returns-clause-step c = steps c
 pub returns-clause-refused : goal.returns-clause-refused
 returns-clause-refused c =
     let keeps = Keeps-reached c.args.self.now c.tell_reached.ensures in
-    refused-same c.args.self.now c.add.new.self c.args.op.now c.add.result keeps.spans keeps.pool (steps c)
+    refused-same c.args.self.now c.add.new.self c.args.op.now c.add.result keeps.holds keeps.pool (steps c)
 
 -- ---- the laws of every run
 
