@@ -1,1 +1,1 @@
-pub mod ReplayLemmas
+pub mod PlanCallLemmas

@@ -1,2 +1,2 @@
 -- In reading order.
-pub mod Replay
+pub mod PlanCalls

@@ -1,7 +1,7 @@
 //! Calls of a planner as data, and runs of them.
 ghost use Rattle.std.specs.Prelude.{◌≡◌, All, length};
 ghost use Rattle.cc_plan.specs.Plan.{HaveDisjointBounds, HaveExactBounds};
-ghost use Rattle.cc_placers.specs.Replay.{AreReplies, IsReply, IsWithinLimit};
+ghost use Rattle.cc_placers.specs.PlanCalls.{AreReplies, IsReply, IsWithinLimit};
 
 use cc_cap::Cap;
 use cc_placer::Placer;

@@ -1,10 +1,10 @@
 -- Runs with one call more.
 use Rattle.std.proofs.Common.{ℕ, ◌+◌, ◌<◌, List, [], ◌∷◌, ◌++◌, length, take, get_or, set, refl, subst}
 use Rattle.std.proofs.lemmas.List.{take_more, take_more_set}
-use Rattle.cc_placers.specs.declared.replay.PlanCall.{PlanCall}
-use Rattle.cc_placers.specs.declared.replay.PlanReply.{PlanReply}
+use Rattle.cc_placers.specs.declared.plan_calls.PlanCall.{PlanCall}
+use Rattle.cc_placers.specs.declared.plan_calls.PlanReply.{PlanReply}
 use Rattle.cc_plan.specs.Plan.{Plan}
-use Rattle.cc_placers.specs.Replay.{AreReplies, IsReply}
+use Rattle.cc_placers.specs.PlanCalls.{AreReplies, IsReply}
 
 replies_push : (old mid new : Plan) (calls : List PlanCall) (replies : List PlanReply) (call : PlanCall)
     (reply : PlanReply)

@@ -1,6 +1,6 @@
 use Rattle.std.proofs.Common.{arith}
-use Rattle.cc_placers.proofs.ReplayLemmas.{replies_more}
-use Rattle.cc_placers.proofs.replay.plan_run.Goals as goal
+use Rattle.cc_placers.proofs.PlanCallLemmas.{replies_more}
+use Rattle.cc_placers.proofs.plan_calls.plan_run.Goals as goal
 
 pub loop-i-preserved : goal.loop-i-preserved
 loop-i-preserved g c = record {

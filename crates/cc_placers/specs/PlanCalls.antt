@@ -1,10 +1,10 @@
 -- Runs of calls of a planner.
 use Rattle.std.specs.Prelude.{ℕ, ◌≡◌, ◌≤◌, ◌^◌, List, [], ◌∷◌, Result, Ok, Err}
 use Rattle.cc_word.specs.declared.refusal.Refusal.{Refusal}
-use Rattle.cc_placers.specs.declared.replay.PlanCall.{PlanCall}
-use Rattle.cc_placers.specs.declared.replay.PlanCall.TheVariants.{Alloc, Free, Sweep}
-use Rattle.cc_placers.specs.declared.replay.PlanReply.{PlanReply}
-use Rattle.cc_placers.specs.declared.replay.PlanReply.TheVariants.{Placed, Freed, Swept, Refused}
+use Rattle.cc_placers.specs.declared.plan_calls.PlanCall.{PlanCall}
+use Rattle.cc_placers.specs.declared.plan_calls.PlanCall.TheVariants.{Alloc, Free, Sweep}
+use Rattle.cc_placers.specs.declared.plan_calls.PlanReply.{PlanReply}
+use Rattle.cc_placers.specs.declared.plan_calls.PlanReply.TheVariants.{Placed, Freed, Swept, Refused}
 use Rattle.cc_plan.specs.Plan.{Allocated, PlanAllocates, PlanFrees, Plan, PlanSweeps}
 
 -- IsWithinLimit holds if a size is at most the size of the address space.
