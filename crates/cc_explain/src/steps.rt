@@ -1,6 +1,7 @@
 //! The intermediate results of decoding, from the fields of a word to its bounds.
 ghost use Rattle.std.specs.Prelude.{◌≡◌, ◌*◌, ◌+◌, ◌<◌, ◌≤◌, ◌^◌};
-ghost use Rattle.cc_bounds.specs.Decoding.{IsPlaced, IsTopMantissa, IsWindow, base_mantissa, first_section, stored_exponent};
+ghost use Rattle.cc_bounds.specs.Decoding.{IsPlaced, IsTopMantissa, IsWindow};
+ghost use Rattle.cc_bounds.specs.Decoding.{base_mantissa, first_section, stored_exponent};
 ghost use Rattle.cc_bounds.specs.Window.{section_of};
 ghost use Rattle.cc_explain.specs.Steps.{AreSteps};
 ghost use Rattle.cc_explain.specs.declared.steps.TheConstants.{LAPS};
