@@ -63,3 +63,5 @@ mod PlannerWitnessLemmas
 mod FrameWitnessLemmas
 mod ScriptWitnessLemmas
 mod TextWitnessLemmas
+mod RefusedLemmas
+mod UnfailingLemmas

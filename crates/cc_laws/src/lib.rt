@@ -23,6 +23,7 @@ mod machine_witnesses;
 pub mod placing;
 pub mod planner;
 mod planner_witnesses;
+pub mod programs;
 pub mod replaying;
 pub mod runs;
 pub mod scripting;

@@ -1,4 +1,1 @@
--- In reading order.
-pub mod Execution
-pub mod Ending
-pub mod Refusals
+pub mod Replaying

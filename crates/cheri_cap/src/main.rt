@@ -1,13 +1,11 @@
 //! The program `cheri-cap`: shows and explains CHERI Concentrate capability words, rounds lengths,
-//! and runs scripts on a machine of capabilities.
+//! runs scripts on a machine of capabilities, and replays the traces of allocators.
 #![tactic(auto)]
 
-mod execution;
-mod laws;
-mod program;
+mod full_memory;
 
-use crate::program::answer_arguments;
-use cli::{Reason, finish};
+use crate::full_memory::FullMemory;
+use cli_program::run_program;
 use cli_scripts::Terminals;
 use std::io::IsTerminal;
 use std::process::ExitCode;
@@ -17,7 +15,6 @@ fn main(rt: HostRuntime) -> ExitCode {
         input: rt.stdin().is_terminal(),
         errors: rt.stderr().is_terminal(),
     };
-    let reason = Reason::new(terminals.errors);
-    let ending = answer_arguments(&rt, terminals, &reason);
-    ExitCode::from(finish(&rt, ending, &reason))
+    let mut memory = FullMemory::new(rt.alloc());
+    ExitCode::from(run_program(&rt, &mut memory, terminals))
 }

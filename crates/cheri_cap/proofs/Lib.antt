@@ -1,5 +1,0 @@
-mod OutcomeLemmas
-mod ExecutionLemmas
-mod HeadlineLemmas
-mod RefusedLemmas
-mod RefusalLemmas

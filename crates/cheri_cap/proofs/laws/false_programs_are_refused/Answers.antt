@@ -1,8 +1,0 @@
-use Rattle.cheri_cap.proofs.RefusedLemmas.{made_up_is_refused, silent_is_refused}
-use Rattle.cheri_cap.proofs.laws.false_programs_are_refused.Goals as goal
-
-pub returns-clause-silent : goal.returns-clause-silent
-returns-clause-silent c = silent_is_refused
-
-pub returns-clause-made_up : goal.returns-clause-made_up
-returns-clause-made_up c = made_up_is_refused

@@ -1,0 +1,84 @@
+//! The memory of the program with `replay`.
+ghost use Rattle.std.specs.Prelude.{◌≡◌, false};
+ghost use Rattle.cheri_cap.specs.Replaying.{with_replay};
+
+use cc_bounds::Align;
+use cc_io::{Sink, Summary};
+use cc_machine::Machine;
+use cc_values::Usage;
+use clap::Error;
+use cli::{Fault, GlobalMemory, Inputs, Invocation, Memory, ReplayTexts};
+use cli_program::ReplayMemory;
+use cli_replay::{TraceMemory, replay_file};
+use cli_scripts::{RunMemory, Session};
+use std::alloc::{AllocError, Global};
+
+/// The memory of the process, in the program that has `replay`.
+#[derive(Drop)]
+pub struct FullMemory {
+    memory: GlobalMemory,
+}
+
+impl FullMemory {
+    /// Creates the memory of the process.
+    pub fn new(alloc: Global) -> Self
+        ensures { ⟦<FullMemory as Memory>⟧.has_failed result ≡ false }
+    {
+        FullMemory {
+            memory: GlobalMemory::new(alloc),
+        }
+    }
+}
+
+impl Memory for FullMemory {
+    ghost has_failed = { λ full. ⟦<GlobalMemory as Memory>⟧.has_failed full.memory };
+
+    fn read_words<'a>(&mut self, words: &'a [&'a str]) -> Result<Invocation<'a>, Error> {
+        self.memory.read_words(words)
+    }
+}
+
+impl RunMemory for FullMemory {
+    fn session(&mut self, limit: u32) -> Result<Session, AllocError> {
+        self.memory.session(limit)
+    }
+
+    fn usage(&mut self, machine: &Machine) -> Result<Usage, AllocError> {
+        self.memory.usage(machine)
+    }
+}
+
+impl ReplayMemory for FullMemory {
+    ghost command = { with_replay };
+
+    fn check_replay(
+        &mut self,
+        align: Align,
+        strict: bool,
+        texts: ReplayTexts<'_>,
+    ) -> Result<(), Error> {
+        self.memory.check_texts(align, strict, texts)
+    }
+
+    fn replay_file<I: Inputs, W: Sink>(
+        &mut self,
+        align: Align,
+        strict: bool,
+        texts: ReplayTexts<'_>,
+        inputs: &mut I,
+        source: &mut I::Opened,
+        file: Option<&str>,
+        sink: &mut W,
+    ) -> Result<Summary, Fault> {
+        replay_file(
+            &mut self.memory,
+            align,
+            strict,
+            texts,
+            inputs,
+            source,
+            file,
+            sink,
+        )
+    }
+}

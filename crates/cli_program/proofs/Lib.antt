@@ -1,0 +1,4 @@
+mod OutcomeLemmas
+pub mod ExecutionLemmas
+mod HeadlineLemmas
+mod RefusalLemmas

@@ -1,0 +1,4 @@
+-- In reading order.
+pub mod Execution
+pub mod Ending
+pub mod Refusals

@@ -1,0 +1,107 @@
+//! The command `replay`, which a program has or refuses, and the memory for it.
+ghost use Rattle.std.specs.Prelude.{◌≡◌, ◌↔◌, Err, IfOk, IfSome, MatchResult, false, true};
+ghost use Rattle.clap.specs.Words.{FailsBy, kind_of};
+ghost use Rattle.cc_io.specs.Devices.{OutputState};
+ghost use Rattle.cli.specs.Devices.{IsEnd, OnOutput, console_of};
+ghost use Rattle.cli.specs.Input.{IsFile};
+ghost use Rattle.cli.specs.Invocation.{kinds_in, value_fault};
+ghost use Rattle.cli_program.specs.Execution.{IsUnasked, ReplayCommand, no_replay};
+
+use cc_bounds::Align;
+use cc_io::{Sink, Summary, write_refusal};
+use cc_word::Refusal;
+use clap::error::ErrorKind;
+use clap::{Command, Error};
+use cli::{Fault, GlobalMemory, Inputs, Memory, ReplayTexts};
+use std::alloc::{AllocError, Global};
+
+/// The memory for `replay`, in a program that has this command or refuses it.
+pub trait ReplayMemory: Memory {
+    // The command: whether its texts are accepted, and its effect.
+    ghost command: { ReplayCommand };
+
+    /// Checks the texts of `replay`, before its trace is read.
+    ///
+    /// Errors: `ValueValidation` if a text is refused, or the program is one without `replay`; an allocation fails.
+    fn check_replay(
+        &mut self,
+        align: Align,
+        strict: bool,
+        texts: ReplayTexts<'_>,
+    ) -> Result<(), Error>
+        ensures kinds { FailsBy (kinds_in (value_fault (command.accepts align strict texts.entry))) result }
+        ensures fails { MatchResult result (λ checked. Self.has_failed self.new ≡ false)
+            (λ error. (kind_of error ≡ ErrorKind.OutOfMemory) ↔ (Self.has_failed self.new ≡ true)) };
+
+    /// Replays the trace that FILE names, and writes its output.
+    ///
+    /// Requires: no device has failed.
+    /// Errors: as the command's effect says.
+    fn replay_file<I: Inputs, W: Sink>(
+        &mut self,
+        align: Align,
+        strict: bool,
+        texts: ReplayTexts<'_>,
+        inputs: &mut I,
+        source: &mut I::Opened,
+        file: Option<&str>,
+        sink: &mut W,
+    ) -> Result<Summary, Fault>
+        requires memory { Self.has_failed self.old ≡ false }
+        requires source { (I.Opened.state source.old).has_failed ≡ false }
+        requires inputs { I.has_refused inputs.old ≡ false }
+        requires sink { (W.state sink.old).has_failed ≡ false }
+        ensures executes { OnOutput (I.bytes_of inputs.old) (I.Opened.state source.new) (W.state sink.old)
+            (W.state sink.new) (command.effect align strict texts.entry file.entry).Does result }
+        ensures starved { result ≡ Err Fault.Memory → (errors errors_now : OutputState)
+            → (command.effect align strict texts.entry file.entry).Starves
+            (console_of (I.bytes_of inputs.old) (I.Opened.state source.new) (W.state sink.old) (W.state sink.new)
+            errors errors_now) }
+        ensures allocates { (result ≡ Err Fault.Memory) ↔ (Self.has_failed self.new ≡ true) }
+        ensures open { result ≡ Err Fault.Open
+            → IfSome (command.effect align strict texts.entry file.entry).input (λ asked. IsFile asked.input) }
+        ensures asked { IsUnasked (command.effect align strict texts.entry file.entry).input (I.last_asked inputs.new)
+            → (inputs.new ≡ inputs.old) × (source.new ≡ source.old) }
+        ensures end { IsEnd (I.has_refused inputs.new) (I.Opened.state source.new) (W.state sink.old)
+            (W.state sink.new) result };
+}
+
+/// The program without `replay`, which proves and builds in less time.
+impl ReplayMemory for GlobalMemory {
+    ghost command = { no_replay };
+
+    fn check_replay(
+        &mut self,
+        _align: Align,
+        _strict: bool,
+        _texts: ReplayTexts<'_>,
+    ) -> Result<(), Error> {
+        let error = match without_replay(self.alloc) {
+            Ok(error) => error,
+            Err(error) => Error::from(error),
+        };
+        self.has_failed = matches!(error.kind(), ErrorKind::OutOfMemory);
+        Err(error)
+    }
+
+    fn replay_file<I: Inputs, W: Sink>(
+        &mut self,
+        _align: Align,
+        _strict: bool,
+        _texts: ReplayTexts<'_>,
+        _inputs: &mut I,
+        _source: &mut I::Opened,
+        _file: Option<&str>,
+        sink: &mut W,
+    ) -> Result<Summary, Fault> {
+        Ok(write_refusal(Refusal::Syntax, sink)?)
+    }
+}
+
+/// Returns the error for `replay` in a program without it.
+fn without_replay(alloc: Global) -> Result<Error, AllocError>
+    ensures { IfOk result (λ error. kind_of error ≡ ErrorKind.ValueValidation) }
+{
+    let message = "this program has no `replay`: `./cheri-cap replay` builds the one that has it";
+    Command::new(alloc, "cheri-cap").error(ErrorKind::ValueValidation, message)
+}
