@@ -4,7 +4,7 @@
 #   top    the directory of the checkout
 #   who    the name that begins each line on standard error
 #
-# and then calls `stand_built`. Two files next to the product of a build describe the build:
+# and then calls `stand_built`, or `is_built` and `build_product`. Two files next to the product of a build describe the build:
 #
 #   built-from    the toolchain's identity with the processor, and the checksums of the sources and of the product
 #   seen          their names, sizes and times when they last had these checksums
@@ -31,11 +31,11 @@ stop() {
 }
 
 # Sets `cpu` to the processor for which the product of a crate is compiled; it is empty for the toolchain's default. Sets `identity`
-# to the line that identifies the installed toolchain, from the file in its directory or, if there is none, by asking it, and the
+# to the line that identifies the installed toolchain, from the file in its directory or, if there is none, by asking it once, and the
 # processor. Without a toolchain it is empty.
 identify() {
   local directories directory rt=''
-  if [[ $1 == cheri_cap ]]; then cpu=${CHERI_CAP_CPU-}; else cpu=$LIBRARY_CPU; fi
+  if [[ $1 == cheri_cap* ]]; then cpu=${CHERI_CAP_CPU-}; else cpu=$LIBRARY_CPU; fi
   IFS=: read -ra directories <<<"$PATH"
   for directory in "${directories[@]}"; do
     [[ ! -f ${directory:-.}/rt || ! -x ${directory:-.}/rt ]] || { rt=${directory:-.}/rt && break; }
@@ -46,7 +46,8 @@ identify() {
   elif [[ -r ${rt%/bin/rt}/KIT-ID ]]; then
     read -r identity <"${rt%/bin/rt}/KIT-ID"
   else
-    identity=$(rt version 2>/dev/null) || identity=''
+    [[ -v asked ]] || asked=$(rt version 2>/dev/null) || asked=''
+    identity=$asked
   fi
   [[ -z $identity || -z $cpu ]] || identity+=" for $cpu"
 }
@@ -137,9 +138,8 @@ build_all() {
   rm -f -- "$kept/building"
   [[ ! -f $top/$product ]] || why='a source or the toolchain changed'
   refuse_links
-  announce "$why"
   before=$(looks | LC_ALL=C sort) || stop 'the sources cannot be read'
-  prove_crates "$product" "${@:3}"
+  prove_crates "$product" "$why" "${@:3}"
   found=$(looks "$product") && made_of=$(checksums "$product") || stop "$product was not built"
   [[ $(looks | LC_ALL=C sort) == "$before" ]] || stop 'a source changed while it was built: start it again'
   keep "$kept/built-from" "$identity"$'\n'"$made_of" && keep "$kept/seen" "$found" || stop "the build cannot be stored in $kept"
@@ -168,7 +168,7 @@ take_built() {
   local product=crates/$1/out/$2 kept=$top/crates/$1/out order cpu identity found made_of
   local -A needs listed
   ! is_built "$1" "$2" || return 0
-  [[ $1 != cheri_cap || -z $cpu ]] || return
+  [[ $1 != cheri_cap* || -z $cpu ]] || return
   [[ -n $identity && -s $top/$product && $(looks | LC_ALL=C sort) == "$3" ]] || return
   found=$(looks "$product") && made_of=$(checksums "$product") || return
   [[ $(looks | LC_ALL=C sort) == "$3" ]] || return
@@ -180,10 +180,13 @@ want_toolchain() {
 
 # Proves and builds a file of a crate's directory out/, unless it is already built from the present sources:  stand_built CRATE FILE
 stand_built() {
-  local product=crates/$1/out/$2 kept=$top/crates/$1/out identity cpu
+  local identity cpu order
   local -A needs listed
-  local order locks=()
-  if is_built "$1" "$2"; then return; fi
+  is_built "$1" "$2" || build_product "$1" "$2"
+}
+# Proves and builds a file of a crate's directory out/, after is_built has said that it is not built:  build_product CRATE FILE
+build_product() {
+  local product=crates/$1/out/$2 kept=$top/crates/$1/out locks=()
   want_toolchain
   # shellcheck source=tools/proving.bash
   declare -F prove_crates >/dev/null || source "$top/tools/proving.bash"

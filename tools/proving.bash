@@ -34,8 +34,13 @@ measure_machine() {
   ((slots > 0)) || slots=1
 }
 
-# Sets `behind` to the seconds of each crate and of the longest chain of crates above it, and `work` to those of all crates, by the
-# costs in tools/crate-costs.
+# Returns whether the library of a crate is kept, as far as its name says.
+is_kept() {
+  [[ -n $store && -d $store/$1-${keys[$1]} ]]
+}
+
+# Sets `behind` to the seconds of each crate and of the longest chain of crates above it, and `work` to those of all crates without a kept
+# library, by the costs in tools/crate-costs.
 read_costs() {
   local name cost it at
   local -A costs=()
@@ -47,22 +52,22 @@ read_costs() {
   work=0
   for ((at = ${#order[@]} - 1; at >= 0; at--)); do
     name=${order[at]} cost=${costs[${order[at]}]:-$UNKNOWN_COST}
-    behind[$name]=$((${behind[$name]:-0} + cost)) work=$((work + cost))
+    behind[$name]=$((${behind[$name]:-0} + cost))
+    is_kept "$name" || work=$((work + cost))
     for it in ${needs[$name]}; do ((${behind[$it]:-0} >= ${behind[$name]})) || behind[$it]=${behind[$name]}; done
   done
 }
 
 # Says before a build how long it takes on this machine, and which ways are quicker:  announce WHY
 announce() {
-  local processors memory slots work name longest=0 seconds
-  local -A behind=()
-  measure_machine
-  read_costs
-  for name in "${order[@]}"; do ((behind[$name] <= longest)) || longest=${behind[$name]}; done
+  local name longest=0 many=0 seconds
+  for name in "${order[@]}"; do
+    is_kept "$name" || { many=$((many + 1)) && ((behind[$name] <= longest)) || longest=${behind[$name]}; }
+  done
   # the share of each processor, and a sixth of the longest chain of crates, in which processors wait; but at least the chain
   seconds=$((work / slots + longest / 6))
   ((seconds >= longest)) || seconds=$longest
-  say "$1: proving and building ${#order[@]} crates takes about $((seconds / 60 + 1)) min here (processors: $processors, free memory: $((memory / 1000)) GB)"
+  say "$1: proving and building takes about $((seconds / 60 + 1)) min here (crates: $many, processors: $processors, free memory: $((memory / 1000)) GB)"
   if [[ $who == cheri-cap ]]; then
     say "'./cheri-cap --look ARGS..' runs the program in about a minute, with nothing proved; a program that ./install has installed needs none of this"
   fi
@@ -298,8 +303,8 @@ await_proof() {
 # with none next to it.
 prove_below() {
   local ended name status left=() again='' it
-  local -A keys=() jobs_of=()
-  { read_keys && mkfifo -- "$apart/ended" && exec {ended}<>"$apart/ended"; } || stop "the build cannot use $apart"
+  local -A jobs_of=()
+  { mkfifo -- "$apart/ended" && exec {ended}<>"$apart/ended"; } || stop "the build cannot use $apart"
   mapfile -t left < <(for it in "${order[@]:0:${#order[@]}-1}"; do printf '%s %s\n' "${behind[$it]}" "$it"; done | LC_ALL=C sort -k1,1nr -k2,2 | cut -d' ' -f2)
   while ((${#left[@]} + ${#running[@]})); do
     begin_ready
@@ -326,13 +331,13 @@ build_last() {
   build_over "$libraries" "$apart" "$last" "$@" >"$apart/said-$last" 2>&1
 }
 
-# Proves all crates in `order`, and builds the product of the last, with the flags that follow:  prove_crates PRODUCT FLAG..
+# Proves all crates in `order`, and builds the product of the last, with the flags that follow:  prove_crates PRODUCT WHY FLAG..
 prove_crates() {
   local product=$1 last=${order[-1]} signal='' toolkit store proved=0 start=$SECONDS told=$SECONDS processors memory slots work
   local apart libraries
   apart=$(cd -- "$top" && pwd -P)/crates/$last/out/apart
   libraries=$apart/libraries
-  local -A behind=() given=() running=()
+  local -A behind=() given=() running=() keys=()
   trap leave_build EXIT
   # A trap only notes the signal. If one did more while bash is in `read -t`, the timeout would end it in the middle.
   trap 'signal=INT' INT
@@ -340,14 +345,16 @@ prove_crates() {
   trap 'signal=HUP' HUP
   rm -rf -- "$apart"
   aside copy_sources || stop "the sources cannot be copied to $apart"
+  find_store
+  read_keys || stop "the build cannot use $apart"
   measure_machine
   read_costs
-  find_store
+  announce "$2"
   find_toolkit || stop 'the toolchain was not found'
   prove_below
   say "${#order[@]} of ${#order[@]}: proving and building $last"
   : >"$libraries/ended"
-  aside build_last "${@:2}" || refuse "$last"
+  aside build_last "${@:3}" || refuse "$last"
   count "$last" proved
   mv -f -- "$apart/$product" "$top/$product" || stop "the build of $last cannot be stored in crates/$last/out"
   heed_signal
