@@ -1,5 +1,5 @@
 //! Proves that the premises of the laws of scripts are met. Each function here does nothing, and its
-//! contract is the claim. The script of README, with its output, is in [`worked`](crate::worked).
+//! contract is the claim. The script of README, with its output, is in [`worked`](crate::worked_laws).
 ghost use Rattle.std.specs.Prelude.{◌≡◌, ℕ, true, [], ◌∷◌, ◌++◌, Some, Ok, Err};
 ghost use Rattle.std.specs.Io.KnownBytes.{Appends};
 ghost use Rattle.std.specs.List.{AllByRecursion};

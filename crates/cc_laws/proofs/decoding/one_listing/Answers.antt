@@ -1,5 +1,0 @@
-use Rattle.cc_laws.proofs.ListingLemmas.{one_listing}
-use Rattle.cc_laws.proofs.decoding.one_listing.Goals as goal
-
-pub returns : goal.returns
-returns c = one_listing

@@ -1,5 +1,0 @@
-use Rattle.cc_laws.proofs.DrawnPlanLemmas.{free_counted}
-use Rattle.cc_laws.proofs.drawings.holes_are_the_free_bytes.Goals as goal
-
-pub returns : goal.returns
-returns c slots plan usage placed is = free_counted slots plan usage placed is

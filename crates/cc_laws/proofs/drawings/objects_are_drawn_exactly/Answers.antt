@@ -1,5 +1,0 @@
-use Rattle.cc_laws.proofs.DrawnPlanLemmas.{drawn_exactly}
-use Rattle.cc_laws.proofs.drawings.objects_are_drawn_exactly.Goals as goal
-
-pub returns : goal.returns
-returns c plan placed = drawn_exactly plan placed

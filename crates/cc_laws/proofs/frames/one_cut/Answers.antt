@@ -1,5 +1,0 @@
-use Rattle.cc_io.proofs.FrameLemmas.{one_cut}
-use Rattle.cc_laws.proofs.frames.one_cut.Goals as goal
-
-pub returns : goal.returns
-returns c = one_cut

@@ -1,5 +1,0 @@
-use Rattle.cc_laws.proofs.PeaklessLemmas.{ignores_peaks}
-use Rattle.cc_laws.proofs.heaps.events_ignore_peaks.Goals as goal
-
-pub returns : goal.returns
-returns c = ignores_peaks

@@ -1,5 +1,0 @@
-use Rattle.cc_laws.proofs.HistoryLemmas.{has_totals}
-use Rattle.cc_laws.proofs.heaps.totals_are_of_all_states.Goals as goal
-
-pub returns : goal.returns
-returns c = has_totals

@@ -1,5 +1,0 @@
-use Rattle.cc_laws.proofs.ByteConfinementLemmas.{within-given}
-use Rattle.cc_laws.proofs.machine.confinement_in_bytes.Goals as goal
-
-pub returns : goal.returns
-returns c = within-given

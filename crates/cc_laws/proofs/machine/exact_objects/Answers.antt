@@ -1,5 +1,0 @@
-use Rattle.cc_machine.proofs.ObjectLawLemmas.{KeepsObjectLaws-reached}
-use Rattle.cc_laws.proofs.machine.exact_objects.Goals as goal
-
-pub returns : goal.returns
-returns c state reached = (KeepsObjectLaws-reached state reached).exact

@@ -1,5 +1,0 @@
-use Rattle.cc_machine.proofs.RunLemmas.{IsReached-run}
-use Rattle.cc_laws.proofs.machine.runs_join.Goals as goal
-
-pub returns : goal.returns
-returns c = IsReached-run

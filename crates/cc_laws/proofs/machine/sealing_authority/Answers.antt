@@ -1,5 +1,0 @@
-use Rattle.cc_machine.proofs.TreeLemmas.{HasSealingAuthority-reached}
-use Rattle.cc_laws.proofs.machine.sealing_authority.Goals as goal
-
-pub returns : goal.returns
-returns c = HasSealingAuthority-reached

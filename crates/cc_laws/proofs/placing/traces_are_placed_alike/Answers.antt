@@ -1,5 +1,0 @@
-use Rattle.cc_laws.proofs.TraceLemmas.{translated}
-use Rattle.cc_laws.proofs.placing.traces_are_placed_alike.Goals as goal
-
-pub returns : goal.returns
-returns c = translated

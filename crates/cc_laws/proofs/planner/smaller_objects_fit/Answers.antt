@@ -1,5 +1,0 @@
-use Rattle.cc_laws.proofs.SmallerLemmas.{smaller_fits}
-use Rattle.cc_laws.proofs.planner.smaller_objects_fit.Goals as goal
-
-pub returns : goal.returns
-returns c = smaller_fits

@@ -1,5 +1,0 @@
-use Rattle.cc_values.proofs.PieceLemmas.{one_join}
-use Rattle.cc_laws.proofs.scripts.one_join.Goals as goal
-
-pub returns : goal.returns
-returns c = one_join

@@ -1,5 +1,0 @@
-use Rattle.cc_script.proofs.OutputLemmas.{one_output}
-use Rattle.cc_laws.proofs.scripts.one_output.Goals as goal
-
-pub returns : goal.returns
-returns c = one_output

@@ -1,5 +1,0 @@
-use Rattle.cc_script.proofs.OutputLemmas.{stopped_begins}
-use Rattle.cc_laws.proofs.scripts.stopped_output_begins.Goals as goal
-
-pub returns : goal.returns
-returns c = stopped_begins
