@@ -28,7 +28,7 @@ use crate::writers::{
     Batch, push_byte, push_byte_if, push_decimal, push_digits, push_hexadecimal, push_padded,
 };
 use bitflags::Flags;
-use cc_bounds::{Span, exponent};
+use cc_bounds::Span;
 use cc_cap::Decoded;
 use cc_io::{Format, Line, push_permissions, push_permissions_array};
 use cc_word::{Fields, Perms, SENTRY_TYPE, UNSEALED_TYPE};
@@ -68,14 +68,7 @@ fn push_columns(batch: &mut Batch, word: u128)
 {
     let decoded = Decoded::of_word(word);
     let canonical = decoded.is_canonical();
-    push_values(
-        batch,
-        b' ',
-        word,
-        &decoded.fields,
-        &decoded.bounds,
-        canonical,
-    );
+    push_values(batch, b' ', word, &decoded, canonical);
 }
 
 /// Appends the line that a tagged word has.
@@ -168,18 +161,18 @@ fn push_fixed(batch: &mut Batch, word: u128)
 {
     let decoded = Decoded::of_word(word);
     let canonical = decoded.is_canonical();
-    push_fixed_values(batch, word, &decoded.fields, &decoded.bounds, canonical);
+    push_fixed_values(batch, word, &decoded, canonical);
 }
 
-/// Appends the columns in one width each of a word with these fields and bounds.
-fn push_fixed_values(batch: &mut Batch, word: u128, fields: &Fields, bounds: &Span, canonical: bool)
+/// Appends the columns in one width each of a decoded word.
+fn push_fixed_values(batch: &mut Batch, word: u128, decoded: &Decoded, canonical: bool)
     requires { length batch.old + 430 ≤ 32768 }
-    ensures value { batch.new ≡ batch.old ++ fixed_text word fields.now bounds.now canonical }
+    ensures value { batch.new ≡ batch.old ++ fixed_text word decoded.now.fields decoded.now.bounds canonical }
     ensures fits { length batch.new ≤ length batch.old + 92 }
 {
-    push_fixed_bounds(batch, word, bounds);
-    push_rights(batch, b' ', fields);
-    push_fixed_encoding(batch, exponent(fields), canonical);
+    push_fixed_bounds(batch, word, &decoded.bounds);
+    push_rights(batch, b' ', &decoded.fields);
+    push_fixed_encoding(batch, decoded.exponent, canonical);
 }
 
 /// Appends the word, its base and its top in one width each.
@@ -218,17 +211,17 @@ fn push_csv(batch: &mut Batch, word: u128)
 {
     let decoded = Decoded::of_word(word);
     let canonical = decoded.is_canonical();
-    push_csv_values(batch, word, &decoded.fields, &decoded.bounds, canonical);
+    push_csv_values(batch, word, &decoded, canonical);
 }
 
-/// Appends the comma-separated values of a word with these fields and bounds.
-fn push_csv_values(batch: &mut Batch, word: u128, fields: &Fields, bounds: &Span, canonical: bool)
+/// Appends the comma-separated values of a decoded word.
+fn push_csv_values(batch: &mut Batch, word: u128, decoded: &Decoded, canonical: bool)
     requires { length batch.old + 430 ≤ 32768 }
-    ensures value { batch.new ≡ batch.old ++ csv_text word fields.now bounds.now canonical }
+    ensures value { batch.new ≡ batch.old ++ csv_text word decoded.now.fields decoded.now.bounds canonical }
     ensures fits { length batch.new ≤ length batch.old + 430 }
 {
-    push_values(batch, b',', word, fields, bounds, canonical);
-    push_address_and_names(batch, fields.address, fields.perms);
+    push_values(batch, b',', word, decoded, canonical);
+    push_address_and_names(batch, decoded.fields.address, decoded.fields.perms);
 }
 
 /// Appends the members of the object of a word, and the brace that closes it.
@@ -239,17 +232,17 @@ fn push_json(batch: &mut Batch, word: u128)
 {
     let decoded = Decoded::of_word(word);
     let canonical = decoded.is_canonical();
-    push_json_members(batch, word, &decoded.fields, &decoded.bounds, canonical);
+    push_json_members(batch, word, &decoded, canonical);
 }
 
-/// Appends the members of the object of a word with these fields and bounds, and the brace that closes it.
-fn push_json_members(batch: &mut Batch, word: u128, fields: &Fields, bounds: &Span, canonical: bool)
+/// Appends the members of the object of a decoded word, and the brace that closes it.
+fn push_json_members(batch: &mut Batch, word: u128, decoded: &Decoded, canonical: bool)
     requires { length batch.old + 430 ≤ 32768 }
-    ensures value { batch.new ≡ batch.old ++ json_text word fields.now bounds.now canonical }
+    ensures value { batch.new ≡ batch.old ++ json_text word decoded.now.fields decoded.now.bounds canonical }
     ensures fits { length batch.new ≤ length batch.old + 430 }
 {
-    push_json_rights(batch, word, fields);
-    push_json_bounds(batch, fields, bounds);
+    push_json_rights(batch, word, &decoded.fields);
+    push_json_bounds(batch, decoded);
     batch.push(b"\",\"canonical\":");
     if canonical {
         batch.push(b"true}");
@@ -287,16 +280,20 @@ fn push_names_array(batch: &mut Batch, perms: u16)
 }
 
 /// Appends the members of the address, the exponent and the bounds.
-fn push_json_bounds(batch: &mut Batch, fields: &Fields, bounds: &Span)
+fn push_json_bounds(batch: &mut Batch, decoded: &Decoded)
     requires { length batch.old + 148 ≤ 32768 }
-    ensures value { batch.new ≡ batch.old ++ json_bounds fields.now bounds.now }
+    ensures value { batch.new ≡ batch.old ++ json_bounds decoded.now.fields decoded.now.bounds }
     ensures fits { length batch.new ≤ length batch.old + 148 }
 {
-    cc_io::push_hexadecimal(batch, b"\",\"address\":\"", u128::from(fields.address));
+    cc_io::push_hexadecimal(
+        batch,
+        b"\",\"address\":\"",
+        u128::from(decoded.fields.address),
+    );
     batch.push(b"\",\"exponent\":");
-    push_decimal(batch, exponent(fields));
-    cc_io::push_hexadecimal(batch, b",\"base\":\"", u128::from(bounds.base));
-    cc_io::push_hexadecimal(batch, b"\",\"top\":\"", bounds.top);
+    push_decimal(batch, decoded.exponent);
+    cc_io::push_hexadecimal(batch, b",\"base\":\"", u128::from(decoded.bounds.base));
+    cc_io::push_hexadecimal(batch, b"\",\"top\":\"", decoded.bounds.top);
 }
 
 /// Appends the address and the names of the permissions, with a comma before each.
@@ -322,23 +319,16 @@ fn push_names(batch: &mut Batch, perms: u16)
     batch.push(names.bytes());
 }
 
-/// Appends the eight values of a word with these fields and bounds, and a separator between each
+/// Appends the eight values of a decoded word, and a separator between each
 /// two.
-fn push_values(
-    batch: &mut Batch,
-    separator: u8,
-    word: u128,
-    fields: &Fields,
-    bounds: &Span,
-    canonical: bool,
-)
+fn push_values(batch: &mut Batch, separator: u8, word: u128, decoded: &Decoded, canonical: bool)
     requires { length batch.old + 300 ≤ 32768 }
-    ensures value { batch.new ≡ batch.old ++ values_text (separator ∷ []) word fields.now bounds.now canonical }
+    ensures value { batch.new ≡ batch.old ++ values_text (separator ∷ []) word decoded.now.fields decoded.now.bounds canonical }
     ensures fits { length batch.new ≤ length batch.old + 150 }
 {
-    push_bounds(batch, separator, word, bounds);
-    push_rights(batch, separator, fields);
-    push_encoding(batch, separator, exponent(fields), canonical);
+    push_bounds(batch, separator, word, &decoded.bounds);
+    push_rights(batch, separator, &decoded.fields);
+    push_encoding(batch, separator, decoded.exponent, canonical);
 }
 
 /// Appends the word, its base and its top, the first three values.

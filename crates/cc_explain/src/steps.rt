@@ -37,7 +37,9 @@ pub fn decoding_steps(decoded: &Decoded) -> Steps
     ensures { AreSteps decoded.now.fields result }
 {
     let Decoded {
-        fields, exponent, ..
+        fields,
+        exponent,
+        ..
     } = *decoded;
     let b = base_mantissa(&fields);
     let t = top_mantissa(&fields);

@@ -11,6 +11,6 @@ joined old values comma address names mid new p q = rw (q, p) (simp append_assoc
 
 pub returns-clause-value : goal.returns-clause-value
 returns-clause-value c =
-    joined c.args.batch.now (values_text (44 ∷ []) c.args.word c.args.fields.now c.args.bounds.now c.args.canonical) (44 ∷ [])
-    (hexadecimal c.args.fields.now.address) (permissions_text c.args.fields.now.perms) c.push_values.new.batch c.push_address_and_names.new.batch
+    joined c.args.batch.now (values_text (44 ∷ []) c.args.word c.args.decoded.now.fields c.args.decoded.now.bounds c.args.canonical) (44 ∷ [])
+    (hexadecimal c.args.decoded.now.fields.address) (permissions_text c.args.decoded.now.fields.perms) c.push_values.new.batch c.push_address_and_names.new.batch
     c.push_values.ensures.value c.push_address_and_names.ensures.value

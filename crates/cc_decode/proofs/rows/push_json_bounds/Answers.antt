@@ -9,7 +9,7 @@ returns-clause-value c =
       c.push_decimal.ensures.value,
       c.push.ensures,
       c.push_hexadecimal.ensures.value,
-      c.exponent.ensures,
+      c.args.decoded.now.is_exponent,
       c.from.ensures,
       c.from-2.ensures,
     ) (simp append_assoc)
