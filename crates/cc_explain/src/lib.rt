@@ -1,5 +1,5 @@
-//! Shows a word: its listing, its one-line form, and its explanation, with the steps of decoding its
-//! bounds and a picture of its window. Also explains a request for bounds.
+//! Shows a word: its listing and its explanation, with the steps of decoding its bounds and a picture
+//! of its window. Also explains a request for bounds.
 #![tactic(auto)]
 
 mod explained_request;
