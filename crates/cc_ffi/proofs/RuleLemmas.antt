@@ -22,7 +22,7 @@ use Rattle.cc_cap.proofs.SubsetLemmas.{OnWord-subset, OnWords-subset, SetsBounds
 use Rattle.cc_ffi.specs.declared.structs.MadeWord.{MadeWord}
 use Rattle.cc_ffi.specs.Numbers.{number_of_halves}
 use Rattle.cc_ffi.specs.Words.{OfFields}
-use Rattle.cc_ffi.specs.Rules.{IsTold, GivesResult, StoresRequest}
+use Rattle.cc_ffi.specs.Rules.{IsMadeWord, GivesResult, StoresRequest}
 
 -- ---- results without a refusal
 
@@ -52,7 +52,7 @@ code-positive NoObject = omega arith
 code-positive Full = omega arith
 
 -- C's word has the property of the word that was made
-told_word : (P : ℕ → Type 0) (answer : Result ℕ Refusal) (told : MadeWord) → IsTold answer told → IfOk answer P → told.refusal ≡ 0
+told_word : (P : ℕ → Type 0) (answer : Result ℕ Refusal) (told : MadeWord) → IsMadeWord answer told → IfOk answer P → told.refusal ≡ 0
     → P (number_of_halves told.high told.low)
 told_word P (Ok word) told is made none = subst P (sym is.0) made
 told_word P (Err refusal) told is made none =
@@ -68,7 +68,7 @@ pub told_subset : (rule : Capability → Result Capability Refusal → Type 0)
     → (word : ℕ) (told : MadeWord) → GivesResult (OnWord rule word) told → told.refusal ≡ 0
     → IsCanonicalSubset (number_of_halves told.high told.low) word
 told_subset rule grants word told is =
-    told_word (λ (n : ℕ). IsCanonicalSubset n word) is.answer told is.is_told (OnWord-subset rule grants word is.answer is.is_answer)
+    told_word (λ (n : ℕ). IsCanonicalSubset n word) is.answer told is.is_made (OnWord-subset rule grants word is.answer is.is_answer)
 
 -- the result of a rule on a word and the word of an authority
 pub told_subset_under : (rule : Capability → Capability → Result Capability Refusal → Type 0)
@@ -76,7 +76,7 @@ pub told_subset_under : (rule : Capability → Capability → Result Capability 
     → (word authority : ℕ) (told : MadeWord) → GivesResult (OnWords rule word authority) told → told.refusal ≡ 0
     → IsCanonicalSubset (number_of_halves told.high told.low) word
 told_subset_under rule grants word authority told is =
-    told_word (λ (n : ℕ). IsCanonicalSubset n word) is.answer told is.is_told (OnWords-subset rule grants word authority is.answer is.is_answer)
+    told_word (λ (n : ℕ). IsCanonicalSubset n word) is.answer told is.is_made (OnWords-subset rule grants word authority is.answer is.is_answer)
 
 -- ---- bounds
 
@@ -147,5 +147,5 @@ on_word len word (Ok result) (inl (canonical, (cap, has, makes))) =
 pub told_stores : (len word : ℕ) (told : MadeWord) → GivesResult (OnWord (λ cap. SetsBounds cap len) word) told → told.refusal ≡ 0
     → OfFields word (λ fields. OfFields (number_of_halves told.high told.low) (λ new. StoresRequest fields len new))
 told_stores len word told is =
-    told_word (λ (n : ℕ). OfFields word (λ fields. OfFields n (λ new. StoresRequest fields len new))) is.answer told is.is_told
+    told_word (λ (n : ℕ). OfFields word (λ fields. OfFields n (λ new. StoresRequest fields len new))) is.answer told is.is_made
     (on_word len word is.answer is.is_answer)

@@ -24,9 +24,9 @@ pub record AreDecoded (fields : Fields) (bounds : Bounds) : Type 0 where
 abbrev pub granted_of : GrantedBounds → Span
 granted_of set = span_of set.base set.top_high set.top_low
 
--- IsToldOf holds if C's struct has the encoding: its span, whether the request was exact, and the
+-- HasEncoding holds if C's struct has the encoding: its span, whether the request was exact, and the
 -- fields that store it.
-pub record IsToldOf (set : Encoding) (told : GrantedBounds) : Type 0 where
+pub record HasEncoding (set : Encoding) (told : GrantedBounds) : Type 0 where
   pub in_range : told.in_range ≡ true
   pub granted : granted_of told ≡ set.granted
   pub exact : told.exact ≡ set.exact
@@ -39,7 +39,7 @@ pub record IsToldOf (set : Encoding) (told : GrantedBounds) : Type 0 where
 -- which is the tightest that covers it.
 pub record IsRequestGranted (request : Span) (told : GrantedBounds) : Type 0 where
   pub set : Encoding
-  pub is_told : IsToldOf set told
+  pub is_made : HasEncoding set told
   pub granted : IsGranted request set.granted
   pub exact : IsTrue set.exact ↔ IsSound request
   pub decodes : DecodesBack set.granted

@@ -11,17 +11,17 @@ use Rattle.cc_bounds.specs.Encoding.{StoresSpan}
 use Rattle.cc_ffi.specs.declared.structs.MadeWord.{MadeWord}
 use Rattle.cc_ffi.specs.Numbers.{number_of_halves}
 
--- IsTold holds if C's struct has the word with refusal 0, or zero halves with the code of the
+-- IsMadeWord holds if C's struct has the word with refusal 0, or zero halves with the code of the
 -- refusal.
-abbrev pub IsTold : (answer : Result ℕ Refusal) (told : MadeWord) → Type 0
-IsTold (Ok word) told = (number_of_halves told.high told.low ≡ word) × (told.refusal ≡ 0)
-IsTold (Err refusal) told = (number_of_halves told.high told.low ≡ 0) × (told.refusal ≡ code_of refusal)
+abbrev pub IsMadeWord : (answer : Result ℕ Refusal) (told : MadeWord) → Type 0
+IsMadeWord (Ok word) told = (number_of_halves told.high told.low ≡ word) × (told.refusal ≡ 0)
+IsMadeWord (Err refusal) told = (number_of_halves told.high told.low ≡ 0) × (told.refusal ≡ code_of refusal)
 
 -- GivesResult holds if the rule has a result, and C's struct has that result.
 pub record GivesResult (rule : Result ℕ Refusal → Type 0) (told : MadeWord) : Type 0 where
   pub answer : Result ℕ Refusal
   pub is_answer : rule answer
-  pub is_told : IsTold answer told
+  pub is_made : IsMadeWord answer told
 
 -- StoresRequest holds if the fields `made` store the span that a request for `length` bytes from the
 -- address of `fields` is granted, and otherwise equal `fields`. The granted span covers the request,

@@ -3,7 +3,7 @@
 ghost use Rattle.std.specs.Prelude.{false, ◌≡◌, ◌+◌, ◌^◌, ◌≤◌, ◌↔◌, IsTrue};
 ghost use Rattle.cc_ffi.specs.Numbers.{number_of_halves};
 ghost use Rattle.cc_ffi.specs.Words.{OfFields};
-ghost use Rattle.cc_ffi.specs.Bounds.{AreDecoded, IsRequestGranted, IsNothing, IsToldOf, StoresNone};
+ghost use Rattle.cc_ffi.specs.Bounds.{AreDecoded, IsRequestGranted, IsNothing, HasEncoding, StoresNone};
 ghost use Rattle.cc_bounds.specs.Span.{span_from};
 ghost use Rattle.cc_bounds.specs.Decoding.{stored_exponent, DecodesTo, SharesBoundsFields};
 ghost use Rattle.cc_bounds.specs.Window.{IsRepresentable, Represents};
@@ -42,7 +42,7 @@ pub extern "C" fn cheri_cap_exponent(high: u64, low: u64) -> u8
 
 /// Returns a granted request as C has it, with `in_range` true.
 fn granted(set: &Set) -> GrantedBounds
-    ensures { IsToldOf set.now result }
+    ensures { HasEncoding set.now result }
 {
     let span = set.granted();
     let top = halves(span.top);

@@ -10,7 +10,7 @@ ghost use Rattle.cc_cap.specs.Derivation.{SetsFlag, Seals, Unseals, Rebuilds};
 ghost use Rattle.cc_cap.specs.WordRules.{OnWord, OnWords, IsSubset, IsCanonicalSubset};
 ghost use Rattle.cc_ffi.specs.Numbers.{number_of_halves};
 ghost use Rattle.cc_ffi.specs.Words.{OfFields};
-ghost use Rattle.cc_ffi.specs.Rules.{IsTold, GivesResult, StoresRequest};
+ghost use Rattle.cc_ffi.specs.Rules.{IsMadeWord, GivesResult, StoresRequest};
 
 use crate::halves::{halves, number};
 use crate::structs::MadeWord;
@@ -18,8 +18,8 @@ use cc_cap::{Flags, Perms, words};
 use cc_word::Refusal;
 
 /// Returns a result as C has it: the word with refusal 0, or zero halves with the refusal's code.
-fn told(answer: Result<u128, Refusal>) -> MadeWord
-    ensures { IsTold answer result }
+fn made_word(answer: Result<u128, Refusal>) -> MadeWord
+    ensures { IsMadeWord answer result }
 {
     match answer {
         Ok(word) => {
@@ -48,7 +48,7 @@ pub extern "C" fn cheri_cap_set_address(high: u64, low: u64, address: u64) -> Ma
     ensures monotonic { result.refusal ≡ 0 → IsCanonicalSubset (number_of_halves result.high result.low)
         (number_of_halves high low) }
 {
-    told(words::set_address(number(high, low), address))
+    made_word(words::set_address(number(high, low), address))
 }
 
 /// Returns the word with `amount` bytes added to its address, modulo 2^64.
@@ -61,7 +61,7 @@ pub extern "C" fn cheri_cap_increment(high: u64, low: u64, amount: u64) -> MadeW
     ensures monotonic { result.refusal ≡ 0 → IsCanonicalSubset (number_of_halves result.high result.low)
         (number_of_halves high low) }
 {
-    told(words::increment(number(high, low), amount))
+    made_word(words::increment(number(high, low), amount))
 }
 
 /// Returns the word with the bounds of `length` bytes from its address, rounded if they cannot be
@@ -90,7 +90,7 @@ pub extern "C" fn cheri_cap_set_bounds_on(
         (λ fields. OfFields (number_of_halves result.high result.low) (λ made.
         StoresRequest fields (number_of_halves length_high length_low) made)) }
 {
-    told(words::set_bounds(number(high, low), number(length_high, length_low)))
+    made_word(words::set_bounds(number(high, low), number(length_high, length_low)))
 }
 
 /// Returns the word with exactly the bounds of `length` bytes from its address.
@@ -110,7 +110,7 @@ pub extern "C" fn cheri_cap_set_bounds_exact_on(
     ensures monotonic { result.refusal ≡ 0 → IsCanonicalSubset (number_of_halves result.high result.low)
         (number_of_halves high low) }
 {
-    told(words::set_bounds_exact(number(high, low), number(length_high, length_low)))
+    made_word(words::set_bounds_exact(number(high, low), number(length_high, length_low)))
 }
 
 /// Returns the word with the permissions that are also in the mask.
@@ -123,7 +123,7 @@ pub extern "C" fn cheri_cap_and_perms(high: u64, low: u64, mask: u16) -> MadeWor
     ensures monotonic { result.refusal ≡ 0 → IsCanonicalSubset (number_of_halves result.high result.low)
         (number_of_halves high low) }
 {
-    told(words::and_perms(number(high, low), Perms::from_bits_retain(mask)))
+    made_word(words::and_perms(number(high, low), Perms::from_bits_retain(mask)))
 }
 
 /// Returns the word with its flag set to `flag`.
@@ -136,7 +136,7 @@ pub extern "C" fn cheri_cap_set_flag(high: u64, low: u64, flag: bool) -> MadeWor
     ensures monotonic { result.refusal ≡ 0 → IsCanonicalSubset (number_of_halves result.high result.low)
         (number_of_halves high low) }
 {
-    told(words::set_flag(number(high, low), flag))
+    made_word(words::set_flag(number(high, low), flag))
 }
 
 /// Returns the word sealed with the authority's address as its type.
@@ -156,7 +156,7 @@ pub extern "C" fn cheri_cap_seal(
     ensures monotonic { result.refusal ≡ 0 → IsCanonicalSubset (number_of_halves result.high result.low)
         (number_of_halves high low) }
 {
-    told(words::seal(number(high, low), number(authority_high, authority_low)))
+    made_word(words::seal(number(high, low), number(authority_high, authority_low)))
 }
 
 /// Returns the sealed word unsealed. It keeps GLOBAL only if the authority has it too.
@@ -176,7 +176,7 @@ pub extern "C" fn cheri_cap_unseal(
     ensures monotonic { result.refusal ≡ 0 → IsCanonicalSubset (number_of_halves result.high result.low)
         (number_of_halves high low) }
 {
-    told(words::unseal(number(high, low), number(authority_high, authority_low)))
+    made_word(words::unseal(number(high, low), number(authority_high, authority_low)))
 }
 
 /// Returns the word again, if its capability grants no more than the authority does.
@@ -196,7 +196,7 @@ pub extern "C" fn cheri_cap_rebuild(
     ensures monotonic { result.refusal ≡ 0 → IsCanonicalSubset (number_of_halves result.high result.low)
         (number_of_halves authority_high authority_low) }
 {
-    told(words::rebuild(number(authority_high, authority_low), number(high, low)))
+    made_word(words::rebuild(number(authority_high, authority_low), number(high, low)))
 }
 
 /// Returns whether the word begins and ends within the other, and the other has all its

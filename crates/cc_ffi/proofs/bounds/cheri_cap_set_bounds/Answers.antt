@@ -8,7 +8,7 @@ returns-clause-granted c fits =
     subst (λ (length : ℕ). IsRequestGranted (span_from c.args.base length) c.granted.result) c.number-length.ensures
     (record {
       set = c.set_bounds.result;
-      is_told = c.granted.ensures;
+      is_made = c.granted.ensures;
       granted = c.set_bounds.ensures.granted;
       exact = c.set_bounds.ensures.exact;
       decodes = c.set_bounds.ensures.decodes;

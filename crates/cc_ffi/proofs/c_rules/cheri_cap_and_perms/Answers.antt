@@ -12,10 +12,10 @@ returns-clause-made c = record {
   is_answer =
       subst (λ (word : ℕ). OnWord (λ cap. MasksPermissions cap c.args.mask) word c.and_perms.result) c.number.ensures
       (subst (λ (mask : ℕ). OnWord (λ cap. MasksPermissions cap mask) c.number.result c.and_perms.result) (c.from_bits_retain.ensures tt) c.and_perms.ensures.made);
-  is_told = c.told.ensures;
+  is_made = c.made_word.ensures;
 }
 
 pub returns-clause-monotonic : goal.returns-clause-monotonic
 returns-clause-monotonic c =
     told_subset (λ cap. MasksPermissions cap c.args.mask) (λ cap. MasksPermissions-grants cap c.args.mask)
-    (number_of_halves c.args.high c.args.low) c.told.result (returns-clause-made c)
+    (number_of_halves c.args.high c.args.low) c.made_word.result (returns-clause-made c)

@@ -10,10 +10,10 @@ pub returns-clause-made : goal.returns-clause-made
 returns-clause-made c = record {
   answer = c.increment.result;
   is_answer = subst (λ (word : ℕ). OnWord (λ cap. Increments cap c.args.amount) word c.increment.result) c.number.ensures c.increment.ensures.made;
-  is_told = c.told.ensures;
+  is_made = c.made_word.ensures;
 }
 
 pub returns-clause-monotonic : goal.returns-clause-monotonic
 returns-clause-monotonic c =
     told_subset (λ cap. Increments cap c.args.amount) (λ cap. SetsAddress-grants cap ((cap.address + c.args.amount) % 2 ^ 64))
-    (number_of_halves c.args.high c.args.low) c.told.result (returns-clause-made c)
+    (number_of_halves c.args.high c.args.low) c.made_word.result (returns-clause-made c)

@@ -12,10 +12,10 @@ returns-clause-made c = record {
   is_answer =
       subst (λ (authority : ℕ). OnWord (λ cap. Rebuilds cap (number_of_halves c.args.high c.args.low)) authority c.rebuild.result) c.number.ensures
       (subst (λ (word : ℕ). OnWord (λ cap. Rebuilds cap word) c.number.result c.rebuild.result) c.number-2.ensures c.rebuild.ensures.made);
-  is_told = c.told.ensures;
+  is_made = c.made_word.ensures;
 }
 
 pub returns-clause-monotonic : goal.returns-clause-monotonic
 returns-clause-monotonic c =
     told_subset (λ by. Rebuilds by (number_of_halves c.args.high c.args.low)) (λ by. Rebuilds-grants by (number_of_halves c.args.high c.args.low))
-    (number_of_halves c.args.authority_high c.args.authority_low) c.told.result (returns-clause-made c)
+    (number_of_halves c.args.authority_high c.args.authority_low) c.made_word.result (returns-clause-made c)

@@ -12,10 +12,10 @@ returns-clause-made c = record {
   is_answer =
       subst (λ (word : ℕ). OnWords Seals word (number_of_halves c.args.authority_high c.args.authority_low) c.seal.result) c.number.ensures
       (subst (λ (authority : ℕ). OnWords Seals c.number.result authority c.seal.result) c.number-2.ensures c.seal.ensures.made);
-  is_told = c.told.ensures;
+  is_made = c.made_word.ensures;
 }
 
 pub returns-clause-monotonic : goal.returns-clause-monotonic
 returns-clause-monotonic c =
     told_subset_under Seals Seals-grants (number_of_halves c.args.high c.args.low) (number_of_halves c.args.authority_high c.args.authority_low)
-    c.told.result (returns-clause-made c)
+    c.made_word.result (returns-clause-made c)

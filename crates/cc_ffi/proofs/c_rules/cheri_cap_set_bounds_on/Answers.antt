@@ -12,14 +12,14 @@ returns-clause-made c = record {
   is_answer =
       subst (λ (word : ℕ). OnWord (λ cap. SetsBounds cap (number_of_halves c.args.length_high c.args.length_low)) word c.set_bounds.result) c.number.ensures
       (subst (λ (length : ℕ). OnWord (λ cap. SetsBounds cap length) c.number.result c.set_bounds.result) c.number-2.ensures c.set_bounds.ensures.made);
-  is_told = c.told.ensures;
+  is_made = c.made_word.ensures;
 }
 
 pub returns-clause-monotonic : goal.returns-clause-monotonic
 returns-clause-monotonic c =
     told_subset (λ cap. SetsBounds cap (number_of_halves c.args.length_high c.args.length_low)) (λ cap. SetsBounds-grants cap (number_of_halves c.args.length_high c.args.length_low))
-    (number_of_halves c.args.high c.args.low) c.told.result (returns-clause-made c)
+    (number_of_halves c.args.high c.args.low) c.made_word.result (returns-clause-made c)
 
 pub returns-clause-stores : goal.returns-clause-stores
 returns-clause-stores c =
-    told_stores (number_of_halves c.args.length_high c.args.length_low) (number_of_halves c.args.high c.args.low) c.told.result (returns-clause-made c)
+    told_stores (number_of_halves c.args.length_high c.args.length_low) (number_of_halves c.args.high c.args.low) c.made_word.result (returns-clause-made c)

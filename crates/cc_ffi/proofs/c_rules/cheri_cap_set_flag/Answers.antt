@@ -10,10 +10,10 @@ pub returns-clause-made : goal.returns-clause-made
 returns-clause-made c = record {
   answer = c.set_flag.result;
   is_answer = subst (λ (word : ℕ). OnWord (λ cap. SetsFlag cap c.args.flag) word c.set_flag.result) c.number.ensures c.set_flag.ensures.made;
-  is_told = c.told.ensures;
+  is_made = c.made_word.ensures;
 }
 
 pub returns-clause-monotonic : goal.returns-clause-monotonic
 returns-clause-monotonic c =
     told_subset (λ cap. SetsFlag cap c.args.flag) (λ cap. SetsFlag-grants cap c.args.flag)
-    (number_of_halves c.args.high c.args.low) c.told.result (returns-clause-made c)
+    (number_of_halves c.args.high c.args.low) c.made_word.result (returns-clause-made c)

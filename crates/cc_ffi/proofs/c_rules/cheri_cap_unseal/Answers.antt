@@ -12,10 +12,10 @@ returns-clause-made c = record {
   is_answer =
       subst (λ (word : ℕ). OnWords Unseals word (number_of_halves c.args.authority_high c.args.authority_low) c.unseal.result) c.number.ensures
       (subst (λ (authority : ℕ). OnWords Unseals c.number.result authority c.unseal.result) c.number-2.ensures c.unseal.ensures.made);
-  is_told = c.told.ensures;
+  is_made = c.made_word.ensures;
 }
 
 pub returns-clause-monotonic : goal.returns-clause-monotonic
 returns-clause-monotonic c =
     told_subset_under Unseals Unseals-grants (number_of_halves c.args.high c.args.low) (number_of_halves c.args.authority_high c.args.authority_low)
-    c.told.result (returns-clause-made c)
+    c.made_word.result (returns-clause-made c)
