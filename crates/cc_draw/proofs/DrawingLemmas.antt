@@ -7,7 +7,7 @@ use Rattle.cc_bounds.specs.declared.span.Span.{Span}
 use Rattle.cc_bounds.specs.Span.{SharesByte}
 use Rattle.cc_bounds.proofs.GranuleLemmas.{div_ceil-le, div_ceil-lt, le-div_ceil}
 use Rattle.cc_plan.specs.declared.planned_object.ObjectState.{ObjectState}
-use Rattle.cc_plan.specs.declared.planned_object.PlannedObject.{PlannedObject}
+use Rattle.cc_plan.specs.PlannedObject.{PlannedObject}
 use Rattle.cc_draw.specs.Drawing.{AreCellsOf, end_cell, first_cell, is_in, layer_text, object_text, parts_text, rectangle_text}
 use Rattle.cc_draw.specs.Cells.{cell_of}
 use Rattle.cc_draw.specs.declared.layout.Layout.{Layout}

@@ -2,7 +2,7 @@
 use Rattle.std.proofs.Common.{◌≡◌, ◌≤◌, ◌<◌, ◌+◌, ◌-◌, ◌*◌, ◌^◌, ◌++◌, ℕ, zero, suc, List, [], arith, min, refl, subst, take}
 use Rattle.std.specs.Int.{div_ceil}
 use Rattle.cc_bounds.proofs.GranuleLemmas.{div_ceil-le, le-div_ceil}
-use Rattle.cc_plan.specs.declared.planned_object.PlannedObject.{PlannedObject}
+use Rattle.cc_plan.specs.PlannedObject.{PlannedObject}
 use Rattle.cc_draw.specs.Map.{AreMapRows, IsMapRow, map_row_text}
 
 -- No row is left.

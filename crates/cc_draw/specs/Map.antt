@@ -7,7 +7,7 @@ use Rattle.cc_bounds.specs.declared.span.Span.{Span}
 use Rattle.cc_bounds.specs.Span.{SharesByte, length_of}
 use Rattle.cc_plan.specs.declared.planned_object.ObjectState.{ObjectState}
 use Rattle.cc_plan.specs.declared.planned_object.ObjectState.TheVariants.{Live, Freed}
-use Rattle.cc_plan.specs.declared.planned_object.PlannedObject.{PlannedObject}
+use Rattle.cc_plan.specs.PlannedObject.{PlannedObject}
 use Rattle.cc_plan.specs.Plan.{Plan}
 use Rattle.cc_io.specs.Text.{with_line_feed}
 use Rattle.cc_io.specs.Numbered.{line_with_hexadecimal}

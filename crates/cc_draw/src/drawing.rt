@@ -304,9 +304,9 @@ fn write_objects<W: Sink>(
     let mut number = 1;
     let mut rest = objects;
     'objects: while let Some((object, after)) = rest.split_first() {
-        if is_in(state, object.state) {
+        if is_in(state, object.state()) {
             page.clear();
-            push_object(&mut page, layout, number, &object.span);
+            push_object(&mut page, layout, number, &object.span());
             match write_all(sink, page.bytes()) {
                 Ok(()) => {}
                 Err(Failed) => return Err(Failed),

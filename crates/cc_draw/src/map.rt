@@ -181,7 +181,7 @@ fn holds_byte(objects: &[PlannedObject], state: ObjectState, cell: &Cell) -> boo
     ensures { IsTrue result ↔ HoldsByte objects.now state (record { base = cell.now.first; top = cell.now.end }) }
 {
     for object in objects {
-        if object.state == state && shares_byte(&object.span, cell) {
+        if object.state() == state && shares_byte(&object.span(), cell) {
             return true;
         }
     }

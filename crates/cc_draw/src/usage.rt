@@ -85,7 +85,7 @@ fn live_count(objects: &[PlannedObject]) -> usize
 {
     objects
         .iter()
-        .filter(|object| matches!(object.state, ObjectState::Live))
+        .filter(|object| matches!(object.state(), ObjectState::Live))
         .count()
 }
 
@@ -95,7 +95,7 @@ fn freed_count(objects: &[PlannedObject]) -> usize
 {
     objects
         .iter()
-        .filter(|object| matches!(object.state, ObjectState::Freed))
+        .filter(|object| matches!(object.state(), ObjectState::Freed))
         .count()
 }
 
@@ -104,7 +104,7 @@ fn swept_count(objects: &[PlannedObject]) -> usize
 {
     objects
         .iter()
-        .filter(|object| matches!(object.state, ObjectState::Swept))
+        .filter(|object| matches!(object.state(), ObjectState::Swept))
         .count()
 }
 
@@ -112,7 +112,7 @@ fn swept_count(objects: &[PlannedObject]) -> usize
 fn is_held(object: &PlannedObject) -> bool
     ensures { result ≡ is_held object.now.state }
 {
-    !matches!(object.state, ObjectState::Swept)
+    !matches!(object.state(), ObjectState::Swept)
 }
 
 /// Returns the number of bytes that were requested for the held objects, without padding.
@@ -124,7 +124,7 @@ fn asked_bytes(objects: &[PlannedObject]) -> u128
     let mut rest = objects;
     'objects: while let Some((object, after)) = rest.split_first() {
         if is_held(object) {
-            asked += object.size;
+            asked += object.size();
         }
         rest = after;
     }
@@ -138,7 +138,7 @@ fn highest_top(objects: &[PlannedObject]) -> u128
     let mut highest = 0;
     let mut rest = objects;
     'objects: while let Some((object, after)) = rest.split_first() {
-        highest = object.span.top.max(highest);
+        highest = object.span().top.max(highest);
         rest = after;
     }
     highest
@@ -151,7 +151,7 @@ fn held_spans(alloc: Global, objects: &[PlannedObject]) -> Result<Vec<Span>, All
     objects
         .iter()
         .filter(|object| is_held(object))
-        .map(|object| object.span)
+        .map(|object| object.span())
         .collect(alloc)
 }
 

@@ -9,7 +9,7 @@ use Rattle.cc_bounds.specs.declared.span.Span.{Span}
 use Rattle.cc_bounds.specs.Span.{IsWithin, SharesByte, from_zero, length_of}
 use Rattle.cc_cap.specs.Capability.{Capability}
 use Rattle.cc_plan.specs.declared.planned_object.ObjectState.TheVariants.{Live}
-use Rattle.cc_plan.specs.declared.planned_object.PlannedObject.{PlannedObject}
+use Rattle.cc_plan.specs.PlannedObject.{PlannedObject}
 use Rattle.cc_plan.specs.Plan.{is_held, plan_bytes as planned_bytes}
 use Rattle.cc_plan.proofs.PlannerLemmas.{AreApart}
 use Rattle.cc_laws.proofs.PackingLemmas.{held_bytes-pool}

@@ -10,7 +10,7 @@ use Rattle.cc_placer.specs.Placement.{HaveSameSpans}
 use Rattle.cc_placer.proofs.SameSpansLemmas.{permutation_from_sums}
 use Rattle.cc_plan.specs.declared.planned_object.ObjectState.{ObjectState}
 use Rattle.cc_plan.specs.declared.planned_object.ObjectState.TheVariants.{Live, Freed, Swept}
-use Rattle.cc_plan.specs.declared.planned_object.PlannedObject.{PlannedObject}
+use Rattle.cc_plan.specs.PlannedObject.{PlannedObject}
 use Rattle.cc_plan.specs.Plan.{plan_spans as planned_spans, is_freed, plan_swept as planned_swept}
 use Rattle.cc_plan.proofs.HeldSpanLemmas.{as_freed, held_weight, sum_held}
 use Rattle.cc_heap.specs.declared.object.Object.{Object}

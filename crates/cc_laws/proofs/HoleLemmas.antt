@@ -11,7 +11,7 @@ use Rattle.std.proofs.lemmas.List.Sums.{sum_by-append, sum_by-cons}
 use Rattle.cc_bounds.specs.declared.span.Span.{Span}
 use Rattle.cc_bounds.specs.Span.{HasByte, IsWithin, length_of}
 use Rattle.cc_bounds.specs.Decoding.{ExactlyOne}
-use Rattle.cc_plan.specs.declared.planned_object.PlannedObject.{PlannedObject}
+use Rattle.cc_plan.specs.PlannedObject.{PlannedObject}
 use Rattle.cc_plan.specs.Plan.{plan_bytes, plan_spans, is_held}
 use Rattle.cc_plan.proofs.HeldSpanLemmas.{sum_held}
 use Rattle.cc_laws.proofs.PackingLemmas.{below, covered-next}

@@ -12,7 +12,7 @@ use Rattle.cc_bounds.specs.Span.{span_from}
 use Rattle.cc_placer.specs.Placement.{HaveSameSpans, IsPlacement}
 use Rattle.cc_placer.proofs.SameSpansLemmas.{placement_along}
 use Rattle.cc_plan.specs.declared.planned_object.ObjectState.TheVariants.{Live}
-use Rattle.cc_plan.specs.declared.planned_object.PlannedObject.{PlannedObject}
+use Rattle.cc_plan.specs.PlannedObject.{PlannedObject}
 use Rattle.cc_plan.specs.Plan.{plan_swept as planned_swept}
 use Rattle.cc_placer.specs.Align.{padded_size_for, unit_of}
 use Rattle.cc_plan.proofs.HeldSpanLemmas.{as_freed}

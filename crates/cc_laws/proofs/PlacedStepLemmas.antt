@@ -10,7 +10,7 @@ use Rattle.cc_bounds.specs.Span.{IsSpan, span_from}
 use Rattle.cc_cap.specs.Capability.{Capability}
 use Rattle.cc_placer.specs.Placement.{IsPlacement}
 use Rattle.cc_plan.specs.declared.planned_object.ObjectState.TheVariants.{Live, Freed}
-use Rattle.cc_plan.specs.declared.planned_object.PlannedObject.{PlannedObject}
+use Rattle.cc_plan.specs.PlannedObject.{PlannedObject}
 use Rattle.cc_placer.specs.Align.{IsUnit, padded_size_for, rounded_up, unit_of}
 use Rattle.cc_plan.specs.Plan.{Plan, capability_over, span_at, plan_swept as planned_swept}
 use Rattle.cc_placer.proofs.AlignLemmas.{padded_for-enough}

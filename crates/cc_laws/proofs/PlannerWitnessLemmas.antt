@@ -10,7 +10,7 @@ use Rattle.cc_bounds.specs.Span.{IsWithin, SharesByte, span_from}
 use Rattle.cc_cap.specs.Capability.{Capability, root_capability}
 use Rattle.cc_placer.specs.Align.{IsUnit, rounded_up}
 use Rattle.cc_placer.specs.Placement.{HasNoPlace, HaveSameSpans, IsApartFrom, IsPlacement}
-use Rattle.cc_plan.specs.declared.planned_object.PlannedObject.{PlannedObject}
+use Rattle.cc_plan.specs.PlannedObject.{PlannedObject}
 use Rattle.cc_plan.specs.Plan.{HaveBoundsInPool}
 use Rattle.cc_machine.specs.Planned.{plan_of}
 use Rattle.cc_laws.specs.Witnesses.{with_first_object}

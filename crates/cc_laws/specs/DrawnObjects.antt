@@ -5,7 +5,7 @@ use Rattle.cc_bounds.specs.declared.span.Span.{Span}
 use Rattle.cc_bounds.specs.Span.{HasByte, IsWithin, length_of}
 use Rattle.cc_bounds.specs.Decoding.{ExactlyOne}
 use Rattle.cc_values.specs.declared.usage.Usage.{Usage}
-use Rattle.cc_plan.specs.declared.planned_object.PlannedObject.{PlannedObject}
+use Rattle.cc_plan.specs.PlannedObject.{PlannedObject}
 use Rattle.cc_plan.specs.Plan.{HaveDisjointBounds}
 use Rattle.cc_draw.specs.declared.layout.Layout.{Layout}
 use Rattle.cc_draw.specs.Usage.{largest_of}

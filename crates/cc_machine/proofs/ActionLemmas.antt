@@ -11,7 +11,7 @@ use Rattle.cc_cap.specs.Capability.{Capability, IsUnsealed}
 use Rattle.cc_cap.specs.Canonical.{IsWordOf}
 use Rattle.cc_plan.specs.declared.planned_object.ObjectId.{ObjectId}
 use Rattle.cc_plan.specs.declared.planned_object.ObjectState.TheVariants.{Live}
-use Rattle.cc_plan.specs.declared.planned_object.PlannedObject.{PlannedObject}
+use Rattle.cc_plan.specs.PlannedObject.{PlannedObject}
 use Rattle.cc_bounds.specs.declared.align.Align.{Align}
 use Rattle.cc_placer.specs.Align.{rounded_up}
 use Rattle.cc_placer.specs.Placement.{IsPlacement, HasNoPlace}

@@ -10,7 +10,7 @@ use Rattle.cc_word.specs.declared.refusal.Refusal.TheVariants.{NoObject}
 use Rattle.cc_bounds.specs.declared.span.Span.{Span}
 use Rattle.cc_bounds.specs.Span.{length_of}
 use Rattle.cc_plan.specs.declared.planned_object.ObjectState.TheVariants.{Live, Freed}
-use Rattle.cc_plan.specs.declared.planned_object.PlannedObject.{PlannedObject}
+use Rattle.cc_plan.specs.PlannedObject.{PlannedObject}
 use Rattle.cc_plan.specs.Plan.{Plan, PlanFrees, plan_bytes as planned_bytes, IsLive, object_numbered}
 use Rattle.cc_machine.specs.declared.object.Object.{Object}
 use Rattle.cc_values.specs.declared.reply.Reply.TheVariants.{Freed as ToldFreed}

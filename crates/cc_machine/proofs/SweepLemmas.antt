@@ -5,7 +5,7 @@ use Rattle.std.proofs.lemmas.List.{length-map}
 use Rattle.cc_bounds.specs.declared.span.Span.{Span}
 use Rattle.cc_bounds.specs.Span.{length_of}
 use Rattle.cc_plan.specs.declared.planned_object.ObjectState.TheVariants.{Freed}
-use Rattle.cc_plan.specs.declared.planned_object.PlannedObject.{PlannedObject}
+use Rattle.cc_plan.specs.PlannedObject.{PlannedObject}
 use Rattle.cc_plan.specs.Plan.{Plan, is_freed, plan_bytes as planned_bytes, plan_freed as planned_freed_count, plan_swept as planned_swept}
 use Rattle.cc_machine.specs.declared.object.Object.{Object}
 use Rattle.cc_machine.specs.declared.slot.Slot.{Slot}

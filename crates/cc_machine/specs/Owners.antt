@@ -1,7 +1,7 @@
 -- The object that each slot belongs to, which a machine keeps in addition to its state, and the
 -- number of slots that belong to each. No public clause cites this file.
 use Rattle.std.specs.Prelude.{ℕ, suc, Bool, false, ◌≡◌, ◌≤◌, ◌<◌, ◌↔◌, List, count_by, length, nat_eq, not, option_map, slice_index, unwrap_or}
-use Rattle.cc_plan.specs.declared.planned_object.PlannedObject.{PlannedObject}
+use Rattle.cc_plan.specs.PlannedObject.{PlannedObject}
 use Rattle.cc_plan.specs.Plan.{is_freed, is_held, object_numbered}
 use Rattle.cc_machine.specs.declared.object.Object.{Object}
 use Rattle.cc_machine.specs.declared.slot.Slot.{Slot}

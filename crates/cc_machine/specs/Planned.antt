@@ -1,7 +1,7 @@
 -- The plan of a state: the limit, the pool with its alignment, and the objects with their bounds.
 use Rattle.std.specs.Prelude.{Option, List, map, option_and_then, option_map, slice_get}
 use Rattle.cc_cap.specs.Capability.{Capability}
-use Rattle.cc_plan.specs.declared.planned_object.PlannedObject.{PlannedObject}
+use Rattle.cc_plan.specs.PlannedObject.{PlannedObject}
 use Rattle.cc_plan.specs.Plan.{Plan}
 use Rattle.cc_machine.specs.declared.object.Object.{Object}
 use Rattle.cc_machine.specs.State.{State, SlotState}

@@ -169,9 +169,9 @@ impl Machine {
             .object(ObjectId(number))
             .ok_or(Refusal::NoObject)?;
         Ok(Object {
-            size: planned.size,
+            size: planned.size(),
             slot: self.object_slots[number as usize - 1],
-            state: planned.state,
+            state: planned.state(),
         })
     }
 

@@ -10,7 +10,7 @@ pub(crate) fn is_swept<P: Placer>(planner: &Planner<P>, owner: u32) -> bool
     ensures { result ≡ is_swept_at planner.now.objects owner }
 {
     match planner.object(ObjectId(owner)) {
-        Some(object) => matches!(object.state, ObjectState::Swept),
+        Some(object) => matches!(object.state(), ObjectState::Swept),
         None => false,
     }
 }
@@ -21,7 +21,7 @@ pub(crate) fn is_freed<P: Placer>(planner: &Planner<P>, owner: u32) -> bool
     ensures { result ≡ is_freed_at planner.now.objects owner }
 {
     match planner.object(ObjectId(owner)) {
-        Some(object) => matches!(object.state, ObjectState::Freed),
+        Some(object) => matches!(object.state(), ObjectState::Freed),
         None => false,
     }
 }

@@ -16,7 +16,7 @@ use Rattle.cc_cap.specs.Capability.{Capability}
 use Rattle.cc_bounds.specs.declared.align.Align.{Align}
 use Rattle.cc_plan.specs.declared.planned_object.ObjectState.{ObjectState}
 use Rattle.cc_plan.specs.declared.planned_object.ObjectState.TheVariants.{Live, Freed, Swept}
-use Rattle.cc_plan.specs.declared.planned_object.PlannedObject.{PlannedObject}
+use Rattle.cc_plan.specs.PlannedObject.{PlannedObject}
 use Rattle.cc_plan.specs.Plan.{Plan, PlanSweeps, plan_freed, is_freed, is_held, plan_swept}
 use Rattle.cc_plan.specs.PlannerState.{IsFreedAt, ListsFreed, SweepsOne}
 use Rattle.cc_plan.proofs.HeldSpanLemmas.{made, as_swept, as_freed}

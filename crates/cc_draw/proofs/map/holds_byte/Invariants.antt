@@ -1,6 +1,6 @@
 use Rattle.std.proofs.Common.{◌≡◌, ◌<◌, ℕ, get_or}
 use Rattle.cc_bounds.specs.Span.{SharesByte}
-use Rattle.cc_plan.specs.declared.planned_object.PlannedObject.{PlannedObject}
+use Rattle.cc_plan.specs.PlannedObject.{PlannedObject}
 use Rattle.cc_draw.proofs.map.holds_byte.Given as goal
 
 abbrev pub invariant-loop-object : goal.invariant-loop-object

@@ -1,6 +1,6 @@
 use Rattle.std.proofs.Common.{◌≡◌, ◌≤◌, List, ap, arith, length, subst}
 use Rattle.std.proofs.lemmas.List.Sorted.{length_permutation}
-use Rattle.cc_plan.specs.declared.planned_object.PlannedObject.{PlannedObject}
+use Rattle.cc_plan.specs.PlannedObject.{PlannedObject}
 use Rattle.cc_plan.specs.Plan.{plan_spans}
 use Rattle.cc_bounds.specs.declared.span.Span.{Span}
 use Rattle.cc_draw.specs.Usage.{asked_bytes_of}

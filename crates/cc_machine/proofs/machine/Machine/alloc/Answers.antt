@@ -4,7 +4,7 @@ use Rattle.cc_word.specs.declared.refusal.Refusal.{Refusal}
 use Rattle.cc_cap.specs.Capability.{Capability}
 use Rattle.cc_plan.specs.declared.planned_object.ObjectId.{ObjectId}
 use Rattle.cc_plan.specs.declared.planned_object.ObjectState.{ObjectState}
-use Rattle.cc_plan.specs.declared.planned_object.PlannedObject.{PlannedObject}
+use Rattle.cc_plan.specs.PlannedObject.{PlannedObject}
 use Rattle.cc_plan.specs.Plan.{Plan, PlanAllocates, is_held}
 use Rattle.cc_values.specs.declared.op.Op.TheVariants.{Alloc}
 use Rattle.cc_machine.specs.declared.slot.Slot.{Slot}

@@ -3,7 +3,7 @@ use Rattle.std.proofs.lemmas.Grind.{get_or_default_zero}
 use Rattle.std.proofs.lemmas.Option.{slice_get_within}
 use Rattle.cc_word.specs.declared.refusal.Refusal.{Refusal}
 use Rattle.cc_plan.specs.declared.planned_object.ObjectState.TheVariants.{Freed}
-use Rattle.cc_plan.specs.declared.planned_object.PlannedObject.{PlannedObject}
+use Rattle.cc_plan.specs.PlannedObject.{PlannedObject}
 use Rattle.cc_plan.specs.Plan.{Plan, PlanFrees}
 use Rattle.cc_values.specs.declared.op.Op.TheVariants.{Free}
 use Rattle.cc_machine.specs.declared.slot.Slot.{Slot}

@@ -1,6 +1,6 @@
 use Rattle.std.proofs.Common.{ℕ, ◌≡◌, ◌∙◌, List, Some, Result, map, sym, ap, subst}
 use Rattle.cc_word.specs.declared.refusal.Refusal.{Refusal}
-use Rattle.cc_plan.specs.declared.planned_object.PlannedObject.{PlannedObject}
+use Rattle.cc_plan.specs.PlannedObject.{PlannedObject}
 use Rattle.cc_plan.specs.Plan.{Plan, GivesPool}
 use Rattle.cc_values.specs.declared.op.Op.TheVariants.{Pool}
 use Rattle.cc_machine.specs.declared.slot.Slot.{Slot}

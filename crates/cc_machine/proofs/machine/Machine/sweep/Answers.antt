@@ -1,5 +1,5 @@
 use Rattle.std.proofs.Common.{List, map, sym, ap, subst}
-use Rattle.cc_plan.specs.declared.planned_object.PlannedObject.{PlannedObject}
+use Rattle.cc_plan.specs.PlannedObject.{PlannedObject}
 use Rattle.cc_plan.specs.Plan.{Plan}
 use Rattle.cc_values.specs.declared.op.Op.TheVariants.{Sweep}
 use Rattle.cc_values.specs.declared.reply.Reply.TheVariants.{Swept as ToldSwept}
