@@ -79,6 +79,14 @@ use std::alloc::{AllocError, Global};
 use std::collections::HashMap;
 use std::marker::Model;
 
+/// The outcome of an event by which nothing is refused and no object is to be made.
+const NOTHING: Outcome = Outcome {
+    was_live: false,
+    unknown: false,
+    lost: false,
+    making: None,
+};
+
 /// The heap of an allocator: objects with exact bounds in a pool, under ids that can be used again,
 /// and a quarantine of the spans of freed objects.
 ///
@@ -206,20 +214,25 @@ impl<P: Placer> Heap<P> {
         // allocation.
         ensures sound { IsSoundMemory self.new.settings.align self.new.memory }
     {
-        // the use of a field shows the prover that the heap is sound, also if nothing changes
+        let outcome = self.happen(event);
+        // the use of a field shows the prover that the heap is sound
         let _ = &self.settings;
+        outcome
+    }
+
+    /// Takes one event, as [`Heap::event`] does.
+    fn happen(&mut self, event: Event) -> Result<Outcome, AllocError>
+        requires { HasAlignment event }
+        ensures is_event { IfOk result (λ outcome. IsEvent self.old event outcome self.new) }
+        ensures refused { OnErr result (FailsInEvent self.old event self.new) }
+    {
         match event {
             Event::Allocate { id, size, align } => self.allocate(id, align, size.max(1)),
             Event::Clear { id, size } => self.allocate(id, 1, size.max(1)),
             Event::Reallocate { old, new, size } => self.reallocate(old, new, 1, size.max(1)),
             Event::Free { id } => Ok(self.free_or_not(id)),
             Event::Sweep => Ok(self.sweep_if_asked()),
-            Event::Clock(_) => Ok(Outcome {
-                was_live: false,
-                unknown: false,
-                lost: false,
-                making: None,
-            }),
+            Event::Clock(_) => Ok(NOTHING),
         }
     }
 
@@ -244,14 +257,11 @@ impl<P: Placer> Heap<P> {
     /// Frees the object under an id, if that is live.
     fn free_or_not(&mut self, id: u64) -> Outcome
         ensures frees { FreesOrNot self.old id result self.new }
-        ensures sound { IsSoundMemory self.new.settings.align self.new.memory }
     {
         let is_live = self.free(id);
         Outcome {
-            was_live: false,
             unknown: !is_live,
-            lost: false,
-            making: None,
+            ..NOTHING
         }
     }
 
@@ -259,17 +269,11 @@ impl<P: Placer> Heap<P> {
     fn sweep_if_asked(&mut self) -> Outcome
         ensures swept { self.new ≡ swept_if_asked self.old }
         ensures told { result ≡ outcome_of false false None }
-        ensures sound { IsSoundMemory self.new.settings.align self.new.memory }
     {
         if self.settings.policy.is_of_the_trace() {
             self.sweep();
         }
-        Outcome {
-            was_live: false,
-            unknown: false,
-            lost: false,
-            making: None,
-        }
+        NOTHING
     }
 
     /// Frees the object under the id, if that is live, and makes one under it.
@@ -280,15 +284,13 @@ impl<P: Placer> Heap<P> {
         ensures refused { OnErr result (FailsToMake self.old id self.new) }
         ensures others { (other : ℕ) → nat_eq id other ≡ false
             → object_under self.new other ≡ object_under self.old other }
-        ensures sound { IsSoundMemory self.new.settings.align self.new.memory }
     {
         let was_live = self.free(id);
         let making = self.try_to_make(id, align, size)?;
         Ok(Outcome {
             was_live,
-            unknown: false,
-            lost: false,
             making: Some(making),
+            ..NOTHING
         })
     }
 
@@ -305,7 +307,6 @@ impl<P: Placer> Heap<P> {
         requires aligned { IsPowerOfTwo align }
         ensures reallocates { IfOk result (λ outcome. Reallocates self.old from to align size outcome self.new) }
         ensures refused { OnErr result (FailsToReallocate self.old from to self.new) }
-        ensures sound { IsSoundMemory self.new.settings.align self.new.memory }
     {
         match self.kept_object(from, align, size) {
             Some(object) => self.keep(from, to, object, align, size),
@@ -350,15 +351,12 @@ impl<P: Placer> Heap<P> {
         requires fits { can_take self.old.settings.align align size object.span ≡ true }
         ensures keeps { IfOk result (λ outcome. KeepsPlace self.old from to object align size outcome self.new) }
         ensures refused { OnErr result (FailsToReallocate self.old from to self.new) }
-        ensures sound { IsSoundMemory self.new.settings.align self.new.memory }
     {
         let was_live = self.clear_other(from, to);
         self.resize(from, to, object, align, size)?;
         Ok(Outcome {
             was_live,
-            unknown: false,
-            lost: false,
-            making: None,
+            ..NOTHING
         })
     }
 
@@ -368,10 +366,7 @@ impl<P: Placer> Heap<P> {
         ensures from { object_under self.new from ≡ object_under self.old from }
         ensures gone { nat_eq from to ≡ false → IsNone (object_under self.new to) }
         ensures settings { self.new.settings ≡ self.old.settings }
-        ensures sound { IsSoundMemory self.new.settings.align self.new.memory }
     {
-        // the use of a field shows the prover that the heap is sound, also if nothing changes
-        let _ = &self.settings;
         if from == to {
             return false;
         }
@@ -396,7 +391,6 @@ impl<P: Placer> Heap<P> {
         requires fresh { nat_eq from to ≡ false → IsNone (object_under self.old to) }
         ensures keeps { OnOk result (KeepsHeapObject self.old from to before align size self.new) }
         ensures refused { OnErr result (self.new ≡ self.old) }
-        ensures sound { IsSoundMemory self.new.settings.align self.new.memory }
     {
         let object = Object {
             size,
@@ -415,7 +409,6 @@ impl<P: Placer> Heap<P> {
         requires aligned { IsPowerOfTwo align }
         ensures remakes { IfOk result (λ outcome. Remakes self.old from to align size outcome self.new) }
         ensures refused { OnErr result (FailsToReallocate self.old from to self.new) }
-        ensures sound { IsSoundMemory self.new.settings.align self.new.memory }
     {
         if !self.objects.contains_key(&from) {
             let outcome = self.allocate(to, align, size)?;
@@ -438,7 +431,6 @@ impl<P: Placer> Heap<P> {
         requires differ { nat_eq to from ≡ false }
         ensures moves { IfOk result (λ outcome. Moves self.old from to align size outcome self.new) }
         ensures refused { OnErr result (FailsToMake self.old to self.new) }
-        ensures sound { IsSoundMemory self.new.settings.align self.new.memory }
     {
         let outcome = self.allocate(to, align, size)?;
         self.free(from);
@@ -452,15 +444,12 @@ impl<P: Placer> Heap<P> {
         requires live { IsSome (object_under self.old id) }
         ensures replaces { IfOk result (λ outcome. ReplacesLive self.old id align size outcome self.new) }
         ensures refused { OnErr result (IsSweptOrNot self.old self.new) }
-        ensures sound { IsSoundMemory self.new.settings.align self.new.memory }
     {
         let making = self.try_to_replace(id, align, size)?;
         self.follow_replacing(id, making);
         Ok(Outcome {
-            was_live: false,
-            unknown: false,
-            lost: false,
             making: Some(making),
+            ..NOTHING
         })
     }
 
@@ -468,7 +457,6 @@ impl<P: Placer> Heap<P> {
     fn follow_replacing(&mut self, id: u64, making: Making)
         requires live { IsSome (object_under self.old id) }
         ensures follows { FollowsReplacing self.old id making self.new }
-        ensures sound { IsSoundMemory self.new.settings.align self.new.memory }
     {
         if making.is_made() {
             self.follow_policy();
@@ -487,7 +475,6 @@ impl<P: Placer> Heap<P> {
         ensures refused { OnErr result (IsSweptOrNot self.old self.new) }
         ensures others { (other : ℕ) → nat_eq id other ≡ false
             → object_under self.new other ≡ object_under self.old other }
-        ensures sound { IsSoundMemory self.new.settings.align self.new.memory }
     {
         let making = self.make(id, align, size)?;
         if making.is_made() {
@@ -506,7 +493,6 @@ impl<P: Placer> Heap<P> {
         ensures tries { IfOk result (λ making. TriesToReplace self.old id align size making self.new) }
         ensures refused { OnErr result (IsSweptOrNot self.old self.new) }
         ensures live { IfOk result (λ making. IsSome (object_under self.new id)) }
-        ensures sound { IsSoundMemory self.new.settings.align self.new.memory }
     {
         let making = self.replace(id, align, size)?;
         if making.is_made() {
@@ -526,7 +512,6 @@ impl<P: Placer> Heap<P> {
         ensures attempts { IfOk result (λ making. AttemptsToReplace self.old id align size making self.new) }
         ensures refused { OnErr result (self.new ≡ self.old) }
         ensures live { IsSome (object_under self.new id) }
-        ensures sound { IsSoundMemory self.new.settings.align self.new.memory }
     {
         let making = self.make(id, align, size)?;
         if !making.is_made() {
@@ -551,7 +536,6 @@ impl<P: Placer> Heap<P> {
         ensures live { IsSome (object_under self.old id) → IsSome (object_under self.new id) }
         ensures others { (other : ℕ) → nat_eq id other ≡ false
             → object_under self.new other ≡ object_under self.old other }
-        ensures sound { IsSoundMemory self.new.settings.align self.new.memory }
     {
         if self.objects.len() + self.quarantine.len() >= self.settings.limit as usize {
             return Ok(Making::Full);
@@ -582,7 +566,6 @@ impl<P: Placer> Heap<P> {
         ensures gone { IsNone (object_under self.new id) }
         ensures others { (other : ℕ) → nat_eq id other ≡ false
             → object_under self.new other ≡ object_under self.old other }
-        ensures sound { IsSoundMemory self.new.settings.align self.new.memory }
     {
         if !self.quarantine_object(id) {
             return false;
@@ -600,7 +583,6 @@ impl<P: Placer> Heap<P> {
         ensures gone { IsNone (object_under self.new id) }
         ensures others { (other : ℕ) → nat_eq id other ≡ false
             → object_under self.new other ≡ object_under self.old other }
-        ensures sound { IsSoundMemory self.new.settings.align self.new.memory }
     {
         let Some(object) = self.objects.remove(&id) else {
             return false;
@@ -616,7 +598,6 @@ impl<P: Placer> Heap<P> {
         requires some { 0 < length self.old.memory.quarantined }
         ensures settles { Settles self.old self.new }
         ensures objects { (id : ℕ) → object_under self.new id ≡ object_under self.old id }
-        ensures sound { IsSoundMemory self.new.settings.align self.new.memory }
     {
         if self.settings.policy.is_immediate() {
             self.release_last();
@@ -629,7 +610,6 @@ impl<P: Placer> Heap<P> {
     /// Counts the state that the heap has.
     fn count_state(&mut self)
         ensures counts { self.new ≡ record self.old { totals = with_usage self.old.totals (usage_of self.old.memory) } }
-        ensures sound { IsSoundMemory self.new.settings.align self.new.memory }
     {
         self.totals = self.totals.with_usage(self.usage);
     }
@@ -638,10 +618,7 @@ impl<P: Placer> Heap<P> {
     fn follow_policy(&mut self)
         ensures follows { FollowsPolicy self.old self.new }
         ensures objects { (id : ℕ) → object_under self.new id ≡ object_under self.old id }
-        ensures sound { IsSoundMemory self.new.settings.align self.new.memory }
     {
-        // the use of a field shows the prover that the heap is sound, also if nothing changes
-        let _ = &self.settings;
         if self.must_sweep() {
             self.sweep();
         }
@@ -662,7 +639,6 @@ impl<P: Placer> Heap<P> {
     /// Sweeps the quarantine.
     fn sweep(&mut self)
         ensures swept { self.new ≡ swept_heap self.old }
-        ensures sound { IsSoundMemory self.new.settings.align self.new.memory }
     {
         let bytes = self.usage.quarantine;
         self.release_all();
@@ -672,7 +648,6 @@ impl<P: Placer> Heap<P> {
     /// Releases all quarantined spans.
     fn release_all(&mut self)
         ensures rest { self.new ≡ record self.old { memory = swept_memory self.old.memory } }
-        ensures sound { IsSoundMemory self.new.settings.align self.new.memory }
     {
         let count = self.quarantine.len();
         for _released in 0..count {
@@ -684,7 +659,6 @@ impl<P: Placer> Heap<P> {
     fn release_last(&mut self)
         requires { 0 < length self.old.memory.quarantined }
         ensures releases { ReleasesLast self.old self.new }
-        ensures sound { IsSoundMemory self.new.settings.align self.new.memory }
     {
         let span = self.quarantine.pop().unwrap();
         self.placer.give_back(span);

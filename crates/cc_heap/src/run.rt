@@ -1,18 +1,15 @@
 //! A heap over a trace, and the ids whose objects were not made.
-ghost use Rattle.std.specs.Prelude.{◌≡◌, ℕ, [], length, IfOk, IfSome, OnOk, ◌<◌, ◌≤◌};
+ghost use Rattle.std.specs.Prelude.{◌≡◌, ℕ, [], IfOk, IfSome, OnOk, ◌<◌};
 ghost use Rattle.cc_placer.specs.Alignment.{HasAlignment};
 ghost use Rattle.cc_heap.specs.Lost.{IsRunEvent, is_lost, is_lost_one, is_not_made, noted};
-ghost use Rattle.cc_heap.specs.Memory.{IsSoundMemory, memory_spans, usage_of};
+ghost use Rattle.cc_heap.specs.Memory.{IsSoundMemory};
 ghost use Rattle.cc_heap.specs.Peaks.{without_peaks};
 ghost use Rattle.cc_heap.specs.Sizes.{no_sizes, with_made_size};
 
 use crate::heap::Heap;
 use crate::making::Making;
 use crate::outcome::Outcome;
-use crate::settings::Settings;
 use crate::sizes::{NO_OBJECTS, SizeTotals, count_size, made_size};
-use crate::totals::Totals;
-use crate::usage::Usage;
 use cc_bounds::Align;
 use cc_placer::{Event, Placer, padded_size};
 use std::alloc::{AllocError, Global};
@@ -71,21 +68,11 @@ impl<P: Placer> Run<P> {
         })
     }
 
-    /// Returns the number of objects and of bytes that the heap holds.
-    ///
-    /// No heap holds more spans than its limit, whatever events it took.
-    pub fn usage(&self) -> Usage
-        ensures value { result ≡ usage_of self.now.heap.memory }
-        ensures at_most { length (memory_spans self.now.heap.memory) ≤ self.now.heap.settings.limit }
+    /// Returns the heap.
+    pub fn heap(&self) -> &Heap<P>
+        ensures { result.now ≡ self.now.heap }
     {
-        self.heap.usage()
-    }
-
-    /// Returns the numbers of all states that the heap has had.
-    pub fn totals(&self) -> Totals
-        ensures { result ≡ self.now.heap.totals }
-    {
-        self.heap.totals()
+        &self.heap
     }
 
     /// Forgets the peaks of bytes of the heap, so that those after an event are of that event alone.
@@ -93,13 +80,6 @@ impl<P: Placer> Run<P> {
         ensures { self.new ≡ record self.old { heap = without_peaks self.old.heap } }
     {
         self.heap.forget_peaks();
-    }
-
-    /// Returns the settings of the heap.
-    pub fn settings(&self) -> Settings
-        ensures { result ≡ self.now.heap.settings }
-    {
-        self.heap.settings()
     }
 
     /// Returns the numbers of the objects that were made, with a row for each power of two: the row

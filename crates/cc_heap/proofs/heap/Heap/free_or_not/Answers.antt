@@ -7,12 +7,7 @@ told : (is_live : Bool) → outcome_of false (not is_live) None ≡ outcome_of f
 told true = refl
 told false = refl
 
-pub returns-clause-frees : goal.returns-clause-frees
-returns-clause-frees g c = record {
-  is_live = c.free-is_live.result;
-  frees = c.free-is_live.ensures.frees;
-  is_told = told c.free-is_live.result;
+pub returns : goal.returns
+returns g c = record {
+  frees = record { is_live = c.free-is_live.result; frees = c.free-is_live.ensures.frees; is_told = told c.free-is_live.result };
 }
-
-pub returns-clause-sound : goal.returns-clause-sound
-returns-clause-sound g c = c.free-is_live.ensures.sound

@@ -120,10 +120,6 @@ returns-in_default-before-clause-attempts g c fresh =
     (rw (← c.in_ok-reserve.ensures.items) kept.usage_is)
     (rw c.from.ensures at c.with_made-self-inside.ensures)
 
-pub returns-in_default-before-clause-sound : goal.returns-in_default-before-clause-sound
-returns-in_default-before-clause-sound g c =
-    (invariant_of-self-in_default-before g c).sound
-
 pub with_quarantined-self-inside-requires-clause-in_order : goal.with_quarantined-self-inside-requires-clause-in_order
 with_quarantined-self-inside-requires-clause-in_order g c =
     let first = found_first c.args.id c.in-Some-before.before c.self.inside.objects.entries
@@ -192,7 +188,3 @@ returns-clause-replaces g c live =
     c.self.invariant.usage_is c.with_made-usage.ensures
     (IsPermutation-refl ((c.args.id, (record { size = c.args.size; align = c.args.align; span = c.in-Some.span })) ∷ c.self.inside.objects.entries)))
     (rw c.from.ensures at c.with_made-self-inside.ensures)
-
-pub returns-clause-sound : goal.returns-clause-sound
-returns-clause-sound g c =
-    (invariant_of-self-2 g c).sound

@@ -51,7 +51,3 @@ returns-clause-quarantined g c =
     quarantines _ c.self.inside.settings c.self.inside.totals c.self.inside.objects.entries c.remove.new.self.entries
     c.self.inside.quarantine.items c.push_reserved.new.self.items c.args.id c.in-Some.object c.remove.result
     c.self.view_is c.remove.ensures.value c.in-Some.is takes c.push_reserved.ensures.items
-
-pub returns-clause-sound : goal.returns-clause-sound
-returns-clause-sound g c =
-    (invariant_of-self-2 g c).sound

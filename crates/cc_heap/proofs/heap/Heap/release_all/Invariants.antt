@@ -1,5 +1,4 @@
 use Rattle.std.proofs.Common.{◌≡◌, ◌+◌, length}
-use Rattle.cc_heap.specs.Memory.{IsSoundMemory}
 use Rattle.cc_heap.proofs.heap.Heap.release_all.Given as goal
 
 -- so many spans fewer are quarantined, and the rest stays
@@ -11,5 +10,4 @@ invariant-loop-released g l = record {
     memory = record { live = l.fn.self.memory.live; quarantined = l.self.memory.quarantined };
     totals = l.fn.self.totals;
   };
-  sound : IsSoundMemory l.self.settings.align l.self.memory;
 }

@@ -51,6 +51,3 @@ invariant_of-self g c =
     (c.self.invariant.held_is _ (IsPermutation-refl (memory_spans (memory_of c.self.inside.objects.entries c.self.inside.quarantine.items)))) last.is_held removes)
     (rw c.len.ensures at c.with_released-self-inside.ensures) c.pop.ensures.capacity
     c.give_back.ensures.limit c.give_back.ensures.pool
-
-pub returns-clause-sound : goal.returns-clause-sound
-returns-clause-sound g c = (invariant_of-self g c).sound

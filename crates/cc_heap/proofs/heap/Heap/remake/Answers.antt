@@ -10,6 +10,3 @@ returns-clause-remakes g c =
 
 pub returns-clause-refused : goal.returns-clause-refused
 returns-clause-refused g c = on_err_weaker c.move_to.result (λ fails. inr fails) c.move_to.ensures.refused
-
-pub returns-clause-sound : goal.returns-clause-sound
-returns-clause-sound g c = c.move_to.ensures.sound

@@ -64,6 +64,3 @@ returns-clause-keeps g c =
     c.args.before (resized c.args.before c.args.align c.args.size) c.self.inside.usage c.with_size-self-inside.result
     c.self.invariant.usage_is c.with_size-self-inside.ensures before.asked refl swaps)
     c.with_usage-self-inside.ensures
-
-pub returns-clause-sound : goal.returns-clause-sound
-returns-clause-sound g c = (invariant_of-self-2 g c).sound

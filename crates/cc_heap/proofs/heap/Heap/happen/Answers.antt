@@ -1,7 +1,7 @@
 use Rattle.std.proofs.Common.{ℕ, IfOk, subst, sym}
 use Rattle.cc_placer.specs.declared.event.Event.{Event}
 use Rattle.cc_heap.specs.Events.{AllocatesInHeap, IsEvent}
-use Rattle.cc_heap.proofs.heap.Heap.event.Goals as goal
+use Rattle.cc_heap.proofs.heap.Heap.happen.Goals as goal
 
 pub returns-in-Clear-clause-is_event : goal.returns-in-Clear-clause-is_event
 returns-in-Clear-clause-is_event g c =
