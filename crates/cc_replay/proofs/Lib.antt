@@ -6,4 +6,3 @@ pub mod HistoryLemmas
 pub mod LineLemmas
 pub mod ScriptLemmas
 pub mod TakingLemmas
-mod GroupLemmas

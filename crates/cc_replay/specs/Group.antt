@@ -2,7 +2,6 @@
 use Rattle.std.specs.Prelude.{ℕ, Bool, true, false, ◌≡◌, ◌||◌, List, [], ◌∷◌, ◌++◌, codes, map}
 use Rattle.std.specs.List.{list_all, list_any}
 use Rattle.cc_io.specs.Answers.{Relation}
-use Rattle.cc_io.specs.Text.{with_line_feed}
 use Rattle.cc_formats.specs.declared.reading.Progress.{Progress}
 use Rattle.cc_formats.specs.declared.reading.Progress.TheVariants.{OutOfMemory}
 use Rattle.cc_formats.specs.declared.reading.Reading.{Reading}
@@ -11,11 +10,9 @@ use Rattle.cc_heap.specs.Lost.{empty_run}
 use Rattle.cc_heap.specs.declared.policy.Policy.{Policy}
 use Rattle.cc_heap.specs.declared.settings.Settings.{Settings}
 use Rattle.cc_replay.specs.declared.table.Format.{Format}
-use Rattle.cc_replay.specs.declared.table.Format.TheVariants.{Text, Csv, Json}
-use Rattle.cc_replay.specs.declared.table.Part.TheVariants.{Heading}
 use Rattle.cc_replay.specs.declared.table.Value.TheVariants.{Sweeping}
 use Rattle.cc_replay.specs.Replay.{ReplayState, begun, figures_of}
-use Rattle.cc_replay.specs.Rows.{Row, between_rows, items_text, names_line, row_text}
+use Rattle.cc_replay.specs.Rows.{Row, between_rows, row_text, table_end, table_heading}
 use Rattle.cc_replay.specs.Summary.{summary_rows}
 use Rattle.cc_replay.specs.Taking.{TakesUnwritten}
 
@@ -64,19 +61,12 @@ more_policies format before [] = []
 more_policies format before (state ∷ states) =
     before ++ row_text format (policy_rows state) ++ more_policies format (between_rows format) states
 
--- The line of the names of the columns, which are the same for every row, or the start of a list of JSON.
-abbrev pub policies_heading : Format → List ReplayState → List ℕ
-policies_heading Json states = codes "["
-policies_heading Text (state ∷ states) = with_line_feed (items_text Heading (policy_rows state))
-policies_heading Csv (state ∷ states) = names_line (policy_rows state)
-policies_heading _ [] = []
-
--- The end of the table.
-abbrev pub policies_end : Format → List ℕ
-policies_end Json = codes "]\n"
-policies_end _ = []
+-- The names of the columns, which are the same for every row.
+abbrev pub columns : List ReplayState → List Row
+columns [] = []
+columns (state ∷ states) = policy_rows state
 
 -- The table: a line of the names and a line for each replay, with spaces or with commas between; or a list of
 -- objects of JSON.
 abbrev pub policies_text : Format → List ReplayState → List ℕ
-policies_text format states = policies_heading format states ++ more_policies format [] states ++ policies_end format
+policies_text format states = table_heading format (columns states) ++ more_policies format [] states ++ table_end format

@@ -112,6 +112,17 @@ row_text Text row = with_line_feed (items_text Cell row)
 row_text Csv row = values_line row
 row_text Json row = codes "{" ++ items_text Member row ++ codes "}"
 
+-- The first line: the names of the columns, or the start of a list of JSON.
+abbrev pub table_heading : Format → List Row → List ℕ
+table_heading Text row = with_line_feed (items_text Heading row)
+table_heading Csv row = names_line row
+table_heading Json row = codes "["
+
+-- The end.
+abbrev pub table_end : Format → List ℕ
+table_end Json = codes "]\n"
+table_end _ = []
+
 -- The bytes between two rows.
 abbrev pub between_rows : Format → List ℕ
 between_rows Text = []

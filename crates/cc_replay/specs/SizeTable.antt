@@ -1,11 +1,8 @@
 -- The table of the objects that were made, by the powers of two of their sizes, and its text in each format.
 use Rattle.std.specs.Prelude.{ℕ, ◌+◌, ◌-◌, ◌*◌, ◌^◌, ◌==◌, List, [], ◌∷◌, ◌++◌, codes, if◌then◌else◌}
-use Rattle.cc_io.specs.Text.{with_line_feed}
 use Rattle.cc_heap.specs.declared.sizes.SizeTotals.{SizeTotals}
 use Rattle.cc_replay.specs.declared.table.Format.{Format}
-use Rattle.cc_replay.specs.declared.table.Format.TheVariants.{Text, Csv, Json}
-use Rattle.cc_replay.specs.declared.table.Part.TheVariants.{Heading}
-use Rattle.cc_replay.specs.Rows.{Row, between_rows, items_text, names_line, row_text}
+use Rattle.cc_replay.specs.Rows.{Row, between_rows, row_text, table_end, table_heading}
 use Rattle.cc_replay.specs.Summary.{number_row}
 
 -- The names and values of a row: the smallest and the largest size of its power of two, and the numbers of
@@ -39,6 +36,4 @@ any_size = size_rows 0 (record { made = 0; inexact = 0; asked = 0; padded = 0 })
 -- The table: a line of the names and a line for each row, with spaces or with commas between; or a list of
 -- objects of JSON.
 abbrev pub sizes_text : Format → List SizeTotals → List ℕ
-sizes_text Text rows = with_line_feed (items_text Heading any_size) ++ all_sizes Text rows
-sizes_text Csv rows = names_line any_size ++ all_sizes Csv rows
-sizes_text Json rows = codes "[" ++ all_sizes Json rows ++ codes "]\n"
+sizes_text format rows = table_heading format any_size ++ all_sizes format rows ++ table_end format

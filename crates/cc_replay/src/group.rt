@@ -9,18 +9,17 @@ ghost use Rattle.cc_replay.specs.Group.{
   any_ran_out,
   are_over,
   begun_group,
+  columns,
   more_policies,
-  policies_end,
-  policies_heading,
   policies_text,
   policy_rows,
   ran_out,
 };
 
 use crate::replay::Replay;
-use crate::rows::{between_rows, push_items, push_names, push_row};
+use crate::rows::{between_rows, end_of, push_heading, push_row};
 use crate::summary::{MOST_ROWS, policy_rows};
-use crate::table::{Format, Part, Row};
+use crate::table::{Format, Row};
 use arrayvec::ArrayVec;
 use cc_formats::{Progress, Reading};
 use cc_heap::{Policy, Settings};
@@ -189,34 +188,19 @@ fn push_policies<P: Placer, const N: usize>(
     requires room { length page.old + 40000 ≤ N }
     ensures { page.new ≡ page.old ++ policies_text format replays.now }
 {
-    push_heading(page, format, replays);
+    push_heading(page, format, columns(replays).as_slice());
     push_replays(page, format, replays);
     page.push(end_of(format));
 }
 
-/// Appends the line of the names of the columns, or the start of a list of JSON.
-fn push_heading<P: Placer, const N: usize>(
-    page: &mut Page<N>,
-    format: Format,
-    replays: &[Replay<P>],
-)
-    requires { length page.old + 4401 ≤ N }
-    ensures value { page.new ≡ page.old ++ policies_heading format replays.now }
-    ensures fits { length page.new ≤ length page.old + 4401 }
+/// Returns a row for the names of the columns: the first.
+fn columns<P: Placer>(replays: &[Replay<P>]) -> ArrayVec<Row, MOST_ROWS>
+    ensures value { table_rows result.items ≡ columns replays.now }
+    ensures few { array_vec_len result ≤ 44 }
 {
-    if let Format::Json = format {
-        return page.push(b"[");
-    }
-    let Some((first, _)) = replays.split_first() else {
-        return;
-    };
-    let rows = rows_with_policy(first);
-    match format {
-        Format::Text => {
-            push_items(page, Part::Heading, rows.as_slice());
-            page.push(b"\n");
-        }
-        _ => push_names(page, rows.as_slice()),
+    match replays.split_first() {
+        Some((first, _)) => rows_with_policy(first),
+        None => ArrayVec::new(),
     }
 }
 
@@ -248,15 +232,4 @@ fn rows_with_policy<P: Placer>(replay: &Replay<P>) -> ArrayVec<Row, MOST_ROWS>
     ensures few { array_vec_len result ≤ 44 }
 {
     policy_rows(replay.settings().policy, &replay.figures())
-}
-
-/// Returns the end of a table.
-fn end_of(format: Format) -> &'static [u8]
-    ensures value { result.now ≡ policies_end format }
-    ensures fits { length result.now ≤ 2 }
-{
-    match format {
-        Format::Text | Format::Csv => b"",
-        Format::Json => b"]\n",
-    }
 }

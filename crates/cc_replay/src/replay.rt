@@ -117,8 +117,8 @@ impl<P: Placer> Replay<P> {
     {
         Figures {
             counts: self.counts,
-            totals: self.run.totals(),
-            usage: self.run.usage(),
+            totals: self.run.heap().totals(),
+            usage: self.run.heap().usage(),
             has_pointers: self.reading.format.has_pointers(),
         }
     }
@@ -127,7 +127,7 @@ impl<P: Placer> Replay<P> {
     pub fn settings(&self) -> Settings
         ensures { result ≡ self.now.run.heap.settings }
     {
-        self.run.settings()
+        self.run.heap().settings()
     }
 
     /// Returns the numbers of the objects that were made, with a row for each power of two: the row
@@ -178,17 +178,6 @@ impl<P: Placer> Replay<P> {
         self.progress
     }
 
-    /// Takes a line, and appends a sample if it is due. Returns whether the line is refused.
-    #[tactic(auto, using(crate::proofs::ReplayLemmas::line_replayed))]
-    fn take_line<const N: usize>(&mut self, line: &[u8], out: &mut Page<N>) -> bool
-        requires room { length out.old + most_sample ≤ N }
-        requires goes_on { is_over self.old.progress ≡ false }
-        ensures { AnswersInto TakesLine self.old line.now out.old out.new result self.new }
-    {
-        let entry = self.read(line);
-        self.take_entry(entry, out)
-    }
-
     /// Takes a line, if further lines are taken, and drops its sample. Returns whether the line is refused.
     pub(crate) fn take_alone(&mut self, line: &[u8]) -> bool
         ensures { TakesUnwritten TakesLine self.old line.now result self.new }
@@ -197,7 +186,7 @@ impl<P: Placer> Replay<P> {
             return false;
         }
         let mut unwritten: Page<MOST_SAMPLE> = Page::new();
-        self.take_line(line, &mut unwritten)
+        self.answer(line, &mut unwritten)
     }
 
     /// Takes trailing bytes, if further lines are taken. Returns whether they are refused.
@@ -208,7 +197,7 @@ impl<P: Placer> Replay<P> {
             return false;
         }
         let mut unwritten: Page<MOST_SAMPLE> = Page::new();
-        self.take_rest(rest, &mut unwritten)
+        self.end(rest, &mut unwritten)
     }
 
     /// Returns the entry of the next line, in the format of the trace.
@@ -236,16 +225,6 @@ impl<P: Placer> Replay<P> {
         }
     }
 
-    /// Counts trailing bytes as a line that is refused.
-    #[tactic(auto, using(crate::proofs::ReplayLemmas::rest_replayed))]
-    fn take_rest<const N: usize>(&mut self, rest: &[u8], out: &mut Page<N>) -> bool
-        requires { is_over self.old.progress ≡ false }
-        ensures { AnswersInto TakesRest self.old rest.now out.old out.new result self.new }
-    {
-        self.counts = self.counts.with_line();
-        self.refuse(Refusal::Unfinished)
-    }
-
     /// Appends the header of the series, if there is one.
     fn push_header<const N: usize>(&self, page: &mut Page<N>)
         requires { length page.old + most_sample ≤ N }
@@ -271,7 +250,7 @@ impl<P: Placer> Replay<P> {
         requires room { length out.old + most_sample ≤ N }
         ensures { AppendsEvent replaying self.old event out.old out.new result self.new }
     {
-        let sweeps = self.run.totals().sweeps;
+        let sweeps = self.run.heap().totals().sweeps;
         let outcome = match self.run.event(event) {
             Ok(outcome) => outcome,
             Err(AllocError) => {
@@ -283,9 +262,11 @@ impl<P: Placer> Replay<P> {
         self.counts = self.counts.with_event(event).with_outcome(outcome);
         self.time = time_after(event, self.time);
         self.progress = self.reading.progress_after(is_refused);
-        self.is_sampled = self
-            .reading
-            .is_due(self.counts.events, sweeps, self.run.totals().sweeps);
+        self.is_sampled = self.reading.is_due(
+            self.counts.events,
+            sweeps,
+            self.run.heap().totals().sweeps,
+        );
         if self.is_sampled {
             let reason = self.reading.reason_of(self.counts.events);
             push_sample(out, reason, self.time, &self.figures());
@@ -323,12 +304,16 @@ impl<P: Placer, const N: usize> Answerer<N> for Replay<P> {
         MOST_SAMPLE
     }
 
-    fn answer(&mut self, entry: &[u8], out: &mut Page<N>) -> bool {
-        self.take_line(entry, out)
+    #[tactic(auto, using(crate::proofs::ReplayLemmas::line_replayed))]
+    fn answer(&mut self, line: &[u8], out: &mut Page<N>) -> bool {
+        let entry = self.read(line);
+        self.take_entry(entry, out)
     }
 
-    fn end(&mut self, rest: &[u8], out: &mut Page<N>) -> bool {
-        self.take_rest(rest, out)
+    #[tactic(auto, using(crate::proofs::ReplayLemmas::rest_replayed))]
+    fn end(&mut self, _rest: &[u8], _out: &mut Page<N>) -> bool {
+        self.counts = self.counts.with_line();
+        self.refuse(Refusal::Unfinished)
     }
 }
 

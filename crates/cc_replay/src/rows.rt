@@ -3,7 +3,7 @@ ghost use Rattle.std.specs.Prelude.{◌≡◌, ◌≤◌, ◌+◌, ◌*◌, ◌%
 ghost use Rattle.cc_replay.specs.Rows.{between_rows, item_text, items_text, json_key};
 ghost use Rattle.cc_replay.specs.Rows.{member_text, more_items, names_line, parts_of};
 ghost use Rattle.cc_replay.specs.Rows.{percent_text, reason_text, row_text, table_rows};
-ghost use Rattle.cc_replay.specs.Rows.{separator_of, table_text, value_text, values_line};
+ghost use Rattle.cc_replay.specs.Rows.{separator_of, table_end, table_heading, table_text, value_text, values_line};
 
 use crate::policy_text::push_policy;
 use crate::table::{Format, Part, Row, Value};
@@ -66,6 +66,34 @@ pub(crate) fn push_values<const N: usize>(page: &mut Page<N>, rows: &[Row])
 {
     push_items(page, Part::Quantity, rows);
     page.push(b"\n");
+}
+
+/// Appends the first line of a table of several rows like this one: the names of its columns, or the start of a list
+/// of JSON.
+pub(crate) fn push_heading<const N: usize>(page: &mut Page<N>, format: Format, row: &[Row])
+    requires { length page.old + 100 * length row.now + 1 ≤ N }
+    ensures value { page.new ≡ page.old ++ table_heading format (table_rows row.now) }
+    ensures fits { length page.new ≤ length page.old + 100 * length row.now + 1 }
+{
+    match format {
+        Format::Text => {
+            push_items(page, Part::Heading, row);
+            page.push(b"\n");
+        }
+        Format::Csv => push_names(page, row),
+        Format::Json => page.push(b"["),
+    }
+}
+
+/// Returns the end of a table of several rows.
+pub(crate) fn end_of(format: Format) -> &'static [u8]
+    ensures value { result.now ≡ table_end format }
+    ensures fits { length result.now ≤ 2 }
+{
+    match format {
+        Format::Text | Format::Csv => b"",
+        Format::Json => b"]\n",
+    }
 }
 
 /// Returns the bytes between two rows of a table of several.

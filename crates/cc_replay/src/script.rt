@@ -94,17 +94,6 @@ impl<P: Placer> Script<P> {
         self.progress
     }
 
-    /// Takes a line, and appends the lines of its operations. Returns whether the line is refused.
-    #[tactic(auto, using(crate::proofs::ScriptLemmas::line_scripted))]
-    fn take_line<const N: usize>(&mut self, line: &[u8], out: &mut Page<N>) -> bool
-        requires room { length out.old + 128 ≤ N }
-        requires goes_on { is_over self.old.progress ≡ false }
-        ensures { AnswersInto ScriptsLine self.old line.now out.old out.new result self.new }
-    {
-        let entry = read_entry(self.reading.format, self.pending, line);
-        self.take_entry(entry, out)
-    }
-
     /// Takes the entry of a line.
     fn take_entry<const N: usize>(&mut self, entry: Entry, out: &mut Page<N>) -> bool
         requires aligned { IfOk entry.event (λ event. IfSome event HasAlignment) }
@@ -117,15 +106,6 @@ impl<P: Placer> Script<P> {
             Ok(Some(event)) => self.take_event(event, out),
             Err(_) => self.refuse(),
         }
-    }
-
-    /// Refuses trailing bytes.
-    #[tactic(auto, using(crate::proofs::ScriptLemmas::rest_scripted))]
-    fn take_rest<const N: usize>(&mut self, rest: &[u8], out: &mut Page<N>) -> bool
-        requires { is_over self.old.progress ≡ false }
-        ensures { AnswersInto ScriptsRest self.old rest.now out.old out.new result self.new }
-    {
-        self.refuse()
     }
 
     /// Refuses a line.
@@ -245,12 +225,15 @@ impl<P: Placer, const N: usize> Answerer<N> for Script<P> {
         128
     }
 
-    fn answer(&mut self, entry: &[u8], out: &mut Page<N>) -> bool {
-        self.take_line(entry, out)
+    #[tactic(auto, using(crate::proofs::ScriptLemmas::line_scripted))]
+    fn answer(&mut self, line: &[u8], out: &mut Page<N>) -> bool {
+        let entry = read_entry(self.reading.format, self.pending, line);
+        self.take_entry(entry, out)
     }
 
-    fn end(&mut self, rest: &[u8], out: &mut Page<N>) -> bool {
-        self.take_rest(rest, out)
+    #[tactic(auto, using(crate::proofs::ScriptLemmas::rest_scripted))]
+    fn end(&mut self, _rest: &[u8], _out: &mut Page<N>) -> bool {
+        self.refuse()
     }
 }
 

@@ -5,8 +5,8 @@ ghost use Rattle.cc_replay.specs.Rows.{table_rows};
 ghost use Rattle.cc_replay.specs.SizeTable.{all_sizes, size_rows, sizes_text};
 
 use crate::row;
-use crate::rows::{between_rows, push_items, push_names, push_row};
-use crate::table::{Format, Part, Row, Value};
+use crate::rows::{between_rows, end_of, push_heading, push_row};
+use crate::table::{Format, Row, Value};
 use cc_heap::{NO_OBJECTS, SizeTotals};
 use cc_io::{IoError, Page, Sink, write_and_flush};
 
@@ -37,23 +37,9 @@ fn push_sizes<const N: usize>(page: &mut Page<N>, format: Format, sizes: &[SizeT
     requires { length page.old + 40000 ≤ N }
     ensures { page.new ≡ page.old ++ sizes_text format sizes.now }
 {
-    let any = size_rows(0, &NO_OBJECTS);
-    match format {
-        Format::Text => {
-            push_items(page, Part::Heading, &any);
-            page.push(b"\n");
-            push_rows(page, format, sizes);
-        }
-        Format::Csv => {
-            push_names(page, &any);
-            push_rows(page, format, sizes);
-        }
-        Format::Json => {
-            page.push(b"[");
-            push_rows(page, format, sizes);
-            page.push(b"]\n");
-        }
-    }
+    push_heading(page, format, &size_rows(0, &NO_OBJECTS));
+    push_rows(page, format, sizes);
+    page.push(end_of(format));
 }
 
 /// Appends the rows that have an object, with the separator between.

@@ -1,6 +1,7 @@
 use Rattle.std.proofs.Common.{◌≡◌, ℕ, Bool, List, [], ◌++◌, false, refl, sym, ◌∙◌, ap, append-nil, inr, subst}
 use Rattle.cc_formats.specs.declared.reading.Progress.TheVariants.{OutOfMemory}
 use Rattle.cc_replay.specs.declared.summary.Figures.{Figures}
+use Rattle.cc_heap.specs.Heap.{Heap}
 use Rattle.cc_heap.specs.declared.totals.Totals.{Totals}
 use Rattle.cc_replay.specs.Counts.{with_outcome}
 use Rattle.cc_formats.specs.declared.reading.SampleReason.{SampleReason}
@@ -33,8 +34,8 @@ returns-then-self g c =
     let new = state_of run inside.reading counts inside.pending time progress sampled in
     let counts_is = c.with_outcome-self-inside.ensures ∙ ap (with_outcome c.in-Ok.outcome) c.with_event.ensures in
     let sampled_is = c.is_due-self-inside.ensures
-    ∙ ap (λ (t : Totals). is_due inside.reading counts.events t.sweeps c.totals.result.sweeps) c.totals-sweeps.ensures
-    ∙ ap (λ (t : Totals). is_due inside.reading counts.events inside.run.heap.totals.sweeps t.sweeps) c.totals.ensures in
+    ∙ ap (λ (t : Totals). is_due inside.reading counts.events t.sweeps c.totals.result.sweeps) (c.totals-sweeps.ensures ∙ ap (λ (h : Heap). h.totals) c.heap.ensures)
+    ∙ ap (λ (t : Totals). is_due inside.reading counts.events inside.run.heap.totals.sweeps t.sweeps) (c.totals.ensures ∙ ap (λ (h : Heap). h.totals) c.heap-2.ensures) in
     let reason = reason_of inside.reading counts.events in
     let text_is : values_line (sample_rows c.reason_of-reason.result time c.figures.result) ≡ sample_text sampled reason new =
     ap (λ (r : SampleReason). values_line (sample_rows r time c.figures.result)) c.reason_of-reason.ensures
@@ -56,8 +57,8 @@ returns-else-self g c =
     let new = state_of run inside.reading counts inside.pending time progress sampled in
     let counts_is = c.with_outcome-self-inside.ensures ∙ ap (with_outcome c.in-Ok.outcome) c.with_event.ensures in
     let sampled_is = c.is_due-self-inside.ensures
-    ∙ ap (λ (t : Totals). is_due inside.reading counts.events t.sweeps c.totals.result.sweeps) c.totals-sweeps.ensures
-    ∙ ap (λ (t : Totals). is_due inside.reading counts.events inside.run.heap.totals.sweeps t.sweeps) c.totals.ensures in
+    ∙ ap (λ (t : Totals). is_due inside.reading counts.events t.sweeps c.totals.result.sweeps) (c.totals-sweeps.ensures ∙ ap (λ (h : Heap). h.totals) c.heap.ensures)
+    ∙ ap (λ (t : Totals). is_due inside.reading counts.events inside.run.heap.totals.sweeps t.sweeps) (c.totals.ensures ∙ ap (λ (h : Heap). h.totals) c.heap-2.ensures) in
     let reason = reason_of inside.reading counts.events in
     let text_is : [] ≡ sample_text sampled reason new = sym (ap (λ (b : Bool). sample_text b reason new) c.if-self.false) in
     subst (λ (old : ReplayState). AppendsEvent replaying old c.args.event c.args.out.now c.args.out.now c.is_refused-is_refused.result new) c.self.view_is
