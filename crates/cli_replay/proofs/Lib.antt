@@ -1,5 +1,3 @@
-mod InputLemmas
 mod ReplayTextsLemmas
+mod OutputLemmas
 mod ReplayingLemmas
-mod ChartingLemmas
-mod ScriptingLemmas

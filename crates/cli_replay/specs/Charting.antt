@@ -72,36 +72,3 @@ pub record ChartsLine (old : Charted) (line text : List ℕ) (is_error : Bool) (
 pub record ChartsRest (old : Charted) (rest text : List ℕ) (is_error : Bool) (new : Charted) : Type 0 where
   pub takes : TakesRest old.replay rest text is_error new.replay
   pub chart : new.chart ≡ old.chart
-
--- TakesLines holds if the lines that the source gave were taken, and the bytes after the last of them, until the replay and the chart
--- were `new`. With a result that is `Ok` the source was read to its end, or until no further line is taken.
-abbrev pub TakesLines : (old : Charted) (unread left : Option (List ℕ)) → Result Summary IoError → (new : Charted) → Type 0
-TakesLines old unread left result new = Pumps (λ state. is_over state.replay.progress) ChartsLine ChartsRest lines 65536 most_sample old [] unread left None None result new
-
--- ReachesEnd holds if the trace was taken, as `TakesLines` says without an error, and no allocation failed.
-pub record ReachesEnd (old : Charted) (unread left : Option (List ℕ)) (summary : Summary) (new : Charted) : Type 0 where
-  pub takes : TakesLines old unread left (Ok summary) new
-  pub has_memory : new.replay.progress ≢ OutOfMemory
-
--- ChartsAll holds if the trace was taken, and the chart was written.
-pub record ChartsAll (old : Charted) (traffic : Traffic) (summary : Summary) : Type 0 where
-  pub new : Charted
-  pub all : ReachesEnd old traffic.source.unread traffic.source_now.unread summary new
-  pub written : Appends traffic.output.taken traffic.output_now.taken (charted_text new)
-
--- StopsInChart holds if the trace was taken, and a prefix of the chart was written.
-pub record StopsInChart (old : Charted) (traffic : Traffic) : Type 0 where
-  pub summary : Summary
-  pub new : Charted
-  pub all : ReachesEnd old traffic.source.unread traffic.source_now.unread summary new
-  pub written : TakesPrefix traffic.output.taken traffic.output_now.taken (charted_text new)
-
--- Charts holds if the chart of the trace's replay was written, up to a failed write. Nothing was written if a read failed.
-abbrev pub Charts : (old : Charted) → Traffic → Result Summary IoError → Type 0
-Charts old traffic (Ok summary) = ChartsAll old traffic summary
-Charts old traffic (Err Read) = traffic.output_now.taken ≡ traffic.output.taken
-Charts old traffic (Err Write) = StopsInChart old traffic
-
--- ChartsTrace holds if the trace was replayed on a heap of these settings that held nothing, and its chart was written.
-abbrev pub ChartsTrace : Settings → Reading → Traffic → Result Summary IoError → Type 0
-ChartsTrace settings reading traffic result = Charts (begun_chart settings reading) traffic result

@@ -2,6 +2,5 @@
 pub mod ReplayTexts
 pub mod Settings
 pub mod Charting
-pub mod Scripting
-pub mod Sweeping
+pub mod Outputs
 pub mod Replaying

@@ -1,20 +1,17 @@
 -- The output of `replay`, by its trace.
-use Rattle.std.specs.Prelude.{◌≡◌, ◌≢◌, ◌⊎◌, ℕ, Bool, ⊤, List, ◌∷◌, Option, Some, None, Result, Ok, Err, MatchResult}
-use Rattle.std.specs.Io.KnownBytes.{Appends}
+use Rattle.std.specs.Prelude.{ℕ, Bool, ⊤, List, [], ◌∷◌, Option, Some, Result, MatchResult}
 use Rattle.cc_bounds.specs.declared.align.Align.{Align}
 use Rattle.cc_io.specs.Correct.{Pumps}
-use Rattle.cc_io.specs.Devices.{TakesPrefix}
 use Rattle.cc_io.specs.Frames.{lines}
 use Rattle.cc_io.specs.declared.summary.IoError.{IoError}
-use Rattle.cc_io.specs.declared.summary.IoError.TheVariants.{Read, Write}
 use Rattle.cc_io.specs.declared.summary.Summary.{Summary}
 use Rattle.cc_heap.specs.Lost.{empty_run}
-use Rattle.cc_replay.specs.Group.{begun_group, policies_text}
+use Rattle.cc_replay.specs.Group.{EachTakes, any_ran_out, are_over, begun_group, policies_text, ran_out}
 use Rattle.cc_replay.specs.Replay.{ReplayState, TakesLine, TakesRest, begun, figures_of, last_sample, most_sample, series_header}
 use Rattle.cc_replay.specs.Rows.{table_text}
+use Rattle.cc_replay.specs.Script.{ScriptState, ScriptsLine, ScriptsRest, script_begun}
 use Rattle.cc_replay.specs.SizeTable.{sizes_text}
 use Rattle.cc_replay.specs.Summary.{summary_rows}
-use Rattle.cc_formats.specs.declared.reading.Progress.TheVariants.{OutOfMemory}
 use Rattle.cc_formats.specs.declared.reading.Reading.{Reading}
 use Rattle.cc_formats.specs.Reading.{is_over}
 use Rattle.cc_heap.specs.declared.policy.Policy.{Policy}
@@ -27,11 +24,8 @@ use Rattle.cli.specs.declared.invocation.ReplayTexts.{ReplayTexts}
 use Rattle.cli.specs.declared.invocation.SummaryFormat.{SummaryFormat}
 use Rattle.cli.specs.declared.invocation.SummaryFormat.TheVariants as summary
 use Rattle.cli.specs.Devices.{Console, Traffic}
-use Rattle.cli_replay.specs.Charting.{ChartsTrace}
-use Rattle.cli_replay.specs.Scripting.{ScriptsTrace}
-use Rattle.cli_replay.specs.Sweeping.{SumsUpGroup}
-use Rattle.cli_replay.specs.declared.replaying.Table.{Table}
-use Rattle.cli_replay.specs.declared.replaying.Table.TheVariants as table
+use Rattle.cli_replay.specs.Charting.{Charted, ChartsLine, ChartsRest, begun_chart, charted_text}
+use Rattle.cli_replay.specs.Outputs.{Samples, Scripts, SumsUp, Taking}
 use Rattle.cli_replay.specs.ReplayTexts.{replay_in}
 use Rattle.cc_io.specs.CommandOutput.{WritesRefusal}
 
@@ -41,94 +35,49 @@ table_format summary.Text = Text
 table_format summary.Csv = Csv
 table_format summary.Json = Json
 
--- The text of the summary of a replay.
-abbrev pub command_summary_text : SummaryFormat → ReplayState → List ℕ
-command_summary_text format state = table_text (table_format format) (summary_rows (figures_of state))
+-- The text that is written of a replay at the end of its trace: the summary, the table of sizes, or of a series the last sample.
+abbrev pub replay_text : ReplayOutput → ReplayState → List ℕ
+replay_text (output.Summary format) state = table_text (table_format format) (summary_rows (figures_of state))
+replay_text (output.Sizes format) state = sizes_text (table_format format) state.run.sizes
+replay_text _ state = last_sample state
 
--- The text of a table of a replay: the summary, or the table of sizes.
-abbrev pub replay_table_text : Table → SummaryFormat → ReplayState → List ℕ
-replay_table_text table.Summary format state = command_summary_text format state
-replay_table_text table.Sizes format state = sizes_text (table_format format) state.run.sizes
+-- The format of the tables of an output, or `text`.
+abbrev pub format_of : ReplayOutput → SummaryFormat
+format_of (output.Summary format) = format
+format_of (output.Sizes format) = format
+format_of _ = summary.Text
+
+-- The text that is written of several replays: the table of their summaries.
+abbrev pub group_text : ReplayOutput → List ReplayState → List ℕ
+group_text output states = policies_text (table_format (format_of output)) states
 
 -- Replays holds if the replay took the lines that the source gave, and the bytes after the last of them, until it had the state `new`.
 -- The samples were written. With a result that is `Ok` the source was read to its end, or until no further line is taken.
-abbrev pub Replays : (old : ReplayState) (unread left output output_now : Option (List ℕ)) → Result Summary IoError → (new : ReplayState) → Type 0
-Replays old unread left output output_now result new =
-    Pumps (λ state. is_over state.progress) TakesLine TakesRest lines 65536 most_sample old (series_header old) unread left output output_now result new
+abbrev pub Replays : (old : ReplayState) → Taking ReplayState
+Replays old = Pumps (λ state. is_over state.progress) TakesLine TakesRest lines 65536 most_sample old (series_header old)
 
--- ReplaysAll holds if the replay took the trace, as `Replays` says without an error, and no allocation failed.
-pub record ReplaysAll (old : ReplayState) (unread left output output_now : Option (List ℕ)) (summary : Summary) (new : ReplayState) : Type 0 where
-  pub replays : Replays old unread left output output_now (Ok summary) new
-  pub has_memory : new.progress ≢ OutOfMemory
+-- Like `Replays`, but of a replay and the chart of its heap.
+abbrev pub Charts : (old : Charted) → Taking Charted
+Charts old = Pumps (λ state. is_over state.replay.progress) ChartsLine ChartsRest lines 65536 most_sample old []
 
--- SumsUpAll holds if the replay took the trace, and the text of its end was written.
-pub record SumsUpAll (text_of : ReplayState → List ℕ) (old : ReplayState) (traffic : Traffic) (summary : Summary) : Type 0 where
-  pub new : ReplayState
-  pub all : ReplaysAll old traffic.source.unread traffic.source_now.unread None None summary new
-  pub written : Appends traffic.output.taken traffic.output_now.taken (text_of new)
+-- Like `Replays`, but of replays that each take every line.
+abbrev pub GroupReplays : (old : List ReplayState) → Taking (List ReplayState)
+GroupReplays old = Pumps are_over (EachTakes TakesLine) (EachTakes TakesRest) lines 65536 0 old []
 
--- StopsInSummary holds if the replay took the trace, and a prefix of the text of its end was written.
-pub record StopsInSummary (text_of : ReplayState → List ℕ) (old : ReplayState) (traffic : Traffic) : Type 0 where
-  pub summary : Summary
-  pub new : ReplayState
-  pub all : ReplaysAll old traffic.source.unread traffic.source_now.unread None None summary new
-  pub written : TakesPrefix traffic.output.taken traffic.output_now.taken (text_of new)
+-- Like `Replays`, but of a script. The lines of its operations were written.
+abbrev pub Writes : (old : ScriptState) → Taking ScriptState
+Writes old = Pumps (λ state. is_over state.progress) ScriptsLine ScriptsRest lines 65536 128 old []
 
--- SumsUp holds if the text of the end of the trace's replay was written, up to a failed write. Nothing was written if a read failed.
-abbrev pub SumsUp : (text_of : ReplayState → List ℕ) → (old : ReplayState) → Traffic → Result Summary IoError → Type 0
-SumsUp text_of old traffic (Ok summary) = SumsUpAll text_of old traffic summary
-SumsUp text_of old traffic (Err Read) = traffic.output_now.taken ≡ traffic.output.taken
-SumsUp text_of old traffic (Err Write) = StopsInSummary text_of old traffic
-
--- SamplesAll holds if the replay took the trace, and its series was written, with the last sample.
-pub record SamplesAll (old : ReplayState) (traffic : Traffic) (summary : Summary) : Type 0 where
-  pub new : ReplayState
-  pub output_then : Option (List ℕ)
-  pub all : ReplaysAll old traffic.source.unread traffic.source_now.unread traffic.output.taken output_then summary new
-  pub written : Appends output_then traffic.output_now.taken (last_sample new)
-
--- StopsInLast holds if the replay took the trace, and its series was written, but of the last sample only a prefix.
-pub record StopsInLast (old : ReplayState) (traffic : Traffic) : Type 0 where
-  pub summary : Summary
-  pub new : ReplayState
-  pub output_then : Option (List ℕ)
-  pub all : ReplaysAll old traffic.source.unread traffic.source_now.unread traffic.output.taken output_then summary new
-  pub written : TakesPrefix output_then traffic.output_now.taken (last_sample new)
-
--- StopsSampling holds if the replay stopped with an error of a device, and the samples before it were written.
-pub record StopsSampling (old : ReplayState) (traffic : Traffic) (error : IoError) : Type 0 where
-  pub new : ReplayState
-  pub replays : Replays old traffic.source.unread traffic.source_now.unread traffic.output.taken traffic.output_now.taken (Err error) new
-
--- Samples holds if the series of the trace's replay was written, up to a failure.
-abbrev pub Samples : (old : ReplayState) → Traffic → Result Summary IoError → Type 0
-Samples old traffic (Ok summary) = SamplesAll old traffic summary
-Samples old traffic (Err Read) = StopsSampling old traffic Read
-Samples old traffic (Err Write) = StopsSampling old traffic Write ⊎ StopsInLast old traffic
-
--- WritesReplay holds if the table of the output was written, or for another output the series.
-abbrev pub WritesReplay : ReplayOutput → (old : ReplayState) → Traffic → Result Summary IoError → Type 0
-WritesReplay (output.Summary format) old traffic result = SumsUp (replay_table_text table.Summary format) old traffic result
-WritesReplay (output.Sizes format) old traffic result = SumsUp (replay_table_text table.Sizes format) old traffic result
-WritesReplay _ old traffic result = Samples old traffic result
-
--- ReplaysAlone holds if the trace was replayed on a heap of these settings that held nothing, and this output of it was written.
-abbrev pub ReplaysAlone : ReplayOutput → Settings → Reading → Traffic → Result Summary IoError → Type 0
-ReplaysAlone output.Script settings reading traffic result = ScriptsTrace settings reading traffic result
-ReplaysAlone output.Chart settings reading traffic result = ChartsTrace settings reading traffic result
-ReplaysAlone output settings reading traffic result = WritesReplay output (begun (empty_run settings) reading) traffic result
-
--- SweepsTrace holds if the trace was replayed on a heap of these settings and on one with each other policy, which held nothing,
--- and the table of their summaries was written.
-abbrev pub SweepsTrace : SummaryFormat → Settings → (others : List Policy) → Reading → Traffic → Result Summary IoError → Type 0
-SweepsTrace format settings others reading traffic result =
-    SumsUpGroup (policies_text (table_format format)) (begun_group settings others reading) traffic result
-
--- ReplaysEach holds if the trace was replayed on one heap, or on several if there are other policies. Only a summary is of several.
+-- ReplaysEach holds if the trace was replayed on a heap of these settings that held nothing, and on one with each other policy, and
+-- this output of it was written. Only a summary is of several heaps.
 abbrev pub ReplaysEach : ReplayOutput → Settings → (others : List Policy) → Reading → Traffic → Result Summary IoError → Type 0
-ReplaysEach (output.Summary format) settings (policy ∷ policies) reading traffic result =
-    SweepsTrace format settings (policy ∷ policies) reading traffic result
-ReplaysEach output settings others reading traffic result = ReplaysAlone output settings reading traffic result
+ReplaysEach (output.Summary format) settings (policy ∷ policies) reading =
+    SumsUp (GroupReplays (begun_group settings (policy ∷ policies) reading)) any_ran_out (group_text (output.Summary format))
+ReplaysEach output.Chart settings others reading = SumsUp (Charts (begun_chart settings reading)) (λ state. ran_out state.replay.progress) charted_text
+ReplaysEach output.Script settings others reading = Scripts (Writes (script_begun settings reading)) (λ state. ran_out state.progress)
+ReplaysEach (output.Series text) settings others reading =
+    Samples (Replays (begun (empty_run settings) reading)) (λ state. ran_out state.progress) (replay_text (output.Series text))
+ReplaysEach table settings others reading = SumsUp (Replays (begun (empty_run settings) reading)) (λ state. ran_out state.progress) (replay_text table)
 
 -- ReplaysTrace holds if the trace was replayed on a heap of these settings, and on one with each other policy, and this output of it
 -- was written.
@@ -141,12 +90,6 @@ abbrev pub IsStreaming : Option ReplayOutput → Type 0
 IsStreaming (Some output.Script) = ⊤
 IsStreaming (Some (output.Series text)) = ⊤
 IsStreaming _ = ⊥
-
--- IsTable holds if the output is a table: the summary, or the table of sizes.
-abbrev pub IsTable : ReplayOutput → Type 0
-IsTable (output.Summary format) = ⊤
-IsTable (output.Sizes format) = ⊤
-IsTable _ = ⊥
 
 -- WithReplay holds if `Does` holds for the output, the settings and the reading of a replay, or if one of their texts is refused.
 abbrev pub WithReplay : Align → (strict : Bool) → ReplayTexts → Console → (Does : ReplayOutput → Settings → Reading × List Policy → Result Summary IoError → Type 0)

@@ -6,9 +6,8 @@ mod memory;
 mod mistakes;
 mod replay_texts;
 mod replaying;
-mod scripting;
-mod sweeping;
+mod takers;
 
-pub use charting::Charting;
 pub use memory::TraceMemory;
 pub use replaying::replay_file;
+pub use takers::{TracePrinter, TraceTaker};

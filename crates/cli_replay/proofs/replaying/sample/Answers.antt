@@ -1,28 +1,52 @@
-use Rattle.std.proofs.Common.{◌≡◌, ◌∙◌, Err, ap}
+use Rattle.std.proofs.Common.{◌≡◌, ◌∙◌, Err, ap, inr}
 use Rattle.std.proofs.lemmas.Result.{err_from_is_err_and}
+use Rattle.std.specs.Io.KnownBytes.{Appends}
+use Rattle.cc_io.specs.Devices.{TakesPrefix}
 use Rattle.cc_io.specs.declared.summary.IoError.TheVariants.{Write}
-use Rattle.cli.specs.Devices.{fault_of}
-use Rattle.cli_replay.specs.Replaying.{Samples}
+use Rattle.cli.specs.Devices.{fault_of, traffic_on}
 use Rattle.cli.proofs.DeviceLemmas.{on_devices}
-use Rattle.cli_replay.proofs.ReplayingLemmas.{samples_all, stops_in_last, stops_sampling}
+use Rattle.cli_replay.specs.Outputs.{Samples}
+use Rattle.cli_replay.proofs.OutputLemmas.{stops_sampling, stops_taking, writes_end}
 use Rattle.cli_replay.proofs.replaying.sample.Goals as goal
 
 pub returns-in_err-summary-clause-samples : goal.returns-in_err-summary-clause-samples
-returns-in_err-summary-clause-samples g c = λ traffic unread left output output_now.
-    let told = err_from_is_err_and c.from_residual.result c.from_residual.ensures.1 in
-    on_devices (Samples c.args.replay.now traffic) c.from_residual.result (Err c.in_err-summary.field-0.0) (told.1 ∙ ap Err told.2)
-    (stops_sampling c.args.replay.now c.take_replay.new.replay traffic _ _ _ _ c.in_err-summary.field-0.0 unread left output output_now c.in_err-summary.ensures.takes)
+returns-in_err-summary-clause-samples g c = λ errors errors_now.
+    let told = err_from_is_err_and c.from_residual-in_err-summary.result c.from_residual-in_err-summary.ensures.1 in
+    let traffic = traffic_on (g.S.Source.state c.args.source.now) (g.S.Source.state c.take.new.source) (g.W.Sink.state c.args.sink.now) (g.W.Sink.state c.take.new.sink) errors errors_now in
+    let begun = g.T.TraceTaker.begun c.args.settings c.args.others.now c.args.reading in
+    on_devices (Samples (g.T.TraceTaker.Takes begun) g.T.TraceTaker.ran_out (g.T.TracePrinter.text c.args.output) traffic) c.from_residual-in_err-summary.result (Err c.in_err-summary.field-0.0)
+    (told.1 ∙ ap Err told.2)
+    (stops_sampling (g.T.TraceTaker.Takes begun) g.T.TraceTaker.ran_out (g.T.TracePrinter.text c.args.output) traffic c.in_err-summary.field-0.0
+    (stops_taking g.T.TraceTaker.Takes traffic c.in_err-summary.field-0.0 begun _ c.take.new.taker c.in_ok-taker.ensures.begins c.in_err-summary.ensures.takes))
 
-pub returns-in_err-end_series-clause-samples : goal.returns-in_err-end_series-clause-samples
-returns-in_err-end_series-clause-samples g c = λ traffic unread left output output_now.
-    let told = err_from_is_err_and c.from_residual-in_err-end_series.result c.from_residual-in_err-end_series.ensures.1 in
-    let is_write : c.in_err-end_series.field-0.0 ≡ Write = cc c.in_err-end_series.ensures.write in
-    on_devices (Samples c.args.replay.now traffic) c.from_residual-in_err-end_series.result (Err Write)
-    (told.1 ∙ ap Err (told.2 ∙ ap fault_of is_write))
-    (stops_in_last c.args.replay.now c.take_replay.new.replay traffic _ _ _ _ _ _ unread left output output_now c.in_ok-summary.ensures.takes
-    (λ is. c.in_default.not-OutOfMemory (c.progress.ensures ∙ is)) c.in_err-end_series.ensures.sends.err)
+pub returns-in_err-write_end-clause-samples : goal.returns-in_err-write_end-clause-samples
+returns-in_err-write_end-clause-samples g c = λ errors errors_now.
+    let told = err_from_is_err_and c.from_residual-in_err-write_end.result c.from_residual-in_err-write_end.ensures.1 in
+    let is_write : c.in_err-write_end.field-0.0 ≡ Write = cc c.in_err-write_end.ensures.write in
+    let source = g.S.Source.state c.args.source.now in
+    let source_now = g.S.Source.state c.take.new.source in
+    let sink = g.W.Sink.state c.args.sink.now in
+    let sink_then = g.W.Sink.state c.take.new.sink in
+    let sink_now = g.W.Sink.state c.write_end.new.sink in
+    on_devices (Samples (g.T.TraceTaker.Takes (g.T.TraceTaker.begun c.args.settings c.args.others.now c.args.reading)) g.T.TraceTaker.ran_out (g.T.TracePrinter.text c.args.output)
+    (traffic_on source source_now sink sink_now errors errors_now)) c.from_residual-in_err-write_end.result (Err Write) (told.1 ∙ ap Err (told.2 ∙ ap fault_of is_write))
+    (inr (
+      sink_then.taken,
+      c.in_ok-summary.summary,
+      writes_end (λ old. g.T.TraceTaker.Takes old source.unread source_now.unread sink.taken sink_then.taken) g.T.TraceTaker.ran_out (g.T.TracePrinter.text c.args.output)
+          (TakesPrefix sink_then.taken sink_now.taken) c.in_ok-summary.summary _ c.in_ok-taker.taker c.take.new.taker c.has_run_out.result c.in_ok-taker.ensures.begins
+          c.in_ok-summary.ensures.takes c.has_run_out.ensures c.if-has_run_out.false c.in_err-write_end.ensures.sends.err,
+    ))
 
 pub returns-clause-samples : goal.returns-clause-samples
-returns-clause-samples g c = λ traffic unread left output output_now.
-    samples_all c.args.replay.now c.take_replay.new.replay traffic _ _ _ _ _ _ unread left output output_now c.in_ok-summary.ensures.takes
-    (λ is. c.in_default.not-OutOfMemory (c.progress.ensures ∙ is)) c.in_ok-end_series.ensures.sends.ok
+returns-clause-samples g c = λ errors errors_now.
+    let source = g.S.Source.state c.args.source.now in
+    let source_now = g.S.Source.state c.take.new.source in
+    let sink = g.W.Sink.state c.args.sink.now in
+    let sink_then = g.W.Sink.state c.take.new.sink in
+    let sink_now = g.W.Sink.state c.write_end.new.sink in (
+      sink_then.taken,
+      writes_end (λ old. g.T.TraceTaker.Takes old source.unread source_now.unread sink.taken sink_then.taken) g.T.TraceTaker.ran_out (g.T.TracePrinter.text c.args.output)
+          (Appends sink_then.taken sink_now.taken) _ _ _ c.take.new.taker c.has_run_out.result c.in_ok-taker.ensures.begins c.in_ok-summary.ensures.takes c.has_run_out.ensures
+          c.if-has_run_out.false c.in_ok-write_end.ensures.sends.ok,
+    )

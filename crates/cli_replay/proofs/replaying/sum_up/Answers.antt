@@ -1,23 +1,35 @@
-use Rattle.std.proofs.Common.{◌≡◌, ◌∙◌, Err, ap}
+use Rattle.std.proofs.Common.{◌≡◌, ◌∙◌, Err, None, ap}
 use Rattle.std.proofs.lemmas.Result.{err_from_is_err_and}
+use Rattle.std.specs.Io.KnownBytes.{Appends}
+use Rattle.cc_io.specs.Devices.{TakesPrefix}
 use Rattle.cc_io.specs.declared.summary.IoError.TheVariants.{Write}
-use Rattle.cli.specs.Devices.{fault_of}
-use Rattle.cli_replay.specs.Replaying.{SumsUp, replay_table_text}
+use Rattle.cli.specs.Devices.{fault_of, traffic_on}
 use Rattle.cli.proofs.DeviceLemmas.{on_devices}
-use Rattle.cli_replay.proofs.ReplayingLemmas.{stops_in_summary, sums_up_all}
+use Rattle.cli_replay.specs.Outputs.{SumsUp}
+use Rattle.cli_replay.proofs.OutputLemmas.{writes_end}
 use Rattle.cli_replay.proofs.replaying.sum_up.Goals as goal
 
-pub returns-in_err-write_table-clause-sums_up : goal.returns-in_err-write_table-clause-sums_up
-returns-in_err-write_table-clause-sums_up g c = λ traffic unread left output output_now.
-    let told = err_from_is_err_and c.from_residual-in_err-write_table.result c.from_residual-in_err-write_table.ensures.1 in
-    let is_write : c.in_err-write_table.field-0.0 ≡ Write = cc c.in_err-write_table.ensures.write in
-    let text_of = replay_table_text c.args.table c.args.format in
-    on_devices (SumsUp text_of c.args.replay.now traffic) c.from_residual-in_err-write_table.result (Err Write)
-    (told.1 ∙ ap Err (told.2 ∙ ap fault_of is_write))
-    (stops_in_summary text_of c.args.replay.now c.take_replay.new.replay traffic _ _ _ _ _ unread left output output_now c.in_ok-summary.ensures.takes
-    (λ is. c.in_default.not-OutOfMemory (c.progress.ensures ∙ is)) c.in_err-write_table.ensures.sends.err)
+pub returns-in_err-write_end-clause-sums_up : goal.returns-in_err-write_end-clause-sums_up
+returns-in_err-write_end-clause-sums_up g c = λ errors errors_now.
+    let told = err_from_is_err_and c.from_residual-in_err-write_end.result c.from_residual-in_err-write_end.ensures.1 in
+    let is_write : c.in_err-write_end.field-0.0 ≡ Write = cc c.in_err-write_end.ensures.write in
+    let source = g.S.Source.state c.args.source.now in
+    let source_now = g.S.Source.state c.take.new.source in
+    let sink = g.W.Sink.state c.args.sink.now in
+    let sink_now = g.W.Sink.state c.write_end.new.sink in
+    on_devices (SumsUp (g.T.TraceTaker.Takes (g.T.TraceTaker.begun c.args.settings c.args.others.now c.args.reading)) g.T.TraceTaker.ran_out (g.T.TracePrinter.text c.args.output)
+    (traffic_on source source_now sink sink_now errors errors_now)) c.from_residual-in_err-write_end.result (Err Write) (told.1 ∙ ap Err (told.2 ∙ ap fault_of is_write)) (
+      c.in_ok-summary.summary,
+      writes_end (λ old. g.T.TraceTaker.Takes old source.unread source_now.unread None None) g.T.TraceTaker.ran_out (g.T.TracePrinter.text c.args.output) (TakesPrefix sink.taken sink_now.taken)
+          c.in_ok-summary.summary _ c.in_ok-taker.taker c.take.new.taker c.has_run_out.result c.in_ok-taker.ensures.begins c.in_ok-summary.ensures.takes c.has_run_out.ensures
+          c.if-has_run_out.false c.in_err-write_end.ensures.sends.err,
+    )
 
 pub returns-clause-sums_up : goal.returns-clause-sums_up
-returns-clause-sums_up g c = λ traffic unread left output output_now.
-    sums_up_all (replay_table_text c.args.table c.args.format) c.args.replay.now c.take_replay.new.replay traffic _ _ _ _ _ unread left output output_now
-    c.in_ok-summary.ensures.takes (λ is. c.in_default.not-OutOfMemory (c.progress.ensures ∙ is)) c.in_ok-write_table.ensures.sends.ok
+returns-clause-sums_up g c = λ errors errors_now.
+    let source = g.S.Source.state c.args.source.now in
+    let source_now = g.S.Source.state c.take.new.source in
+    let sink = g.W.Sink.state c.args.sink.now in
+    let sink_now = g.W.Sink.state c.write_end.new.sink in
+    writes_end (λ old. g.T.TraceTaker.Takes old source.unread source_now.unread None None) g.T.TraceTaker.ran_out (g.T.TracePrinter.text c.args.output) (Appends sink.taken sink_now.taken)
+    _ _ _ c.take.new.taker c.has_run_out.result c.in_ok-taker.ensures.begins c.in_ok-summary.ensures.takes c.has_run_out.ensures c.if-has_run_out.false c.in_ok-write_end.ensures.sends.ok

@@ -1,6 +1,6 @@
 use Rattle.std.proofs.Common.{ap, sym}
 use Rattle.cli_replay.specs.Replaying.{table_format}
-use Rattle.cli_replay.proofs.replaying.table_format.Goals as goal
+use Rattle.cli_replay.proofs.takers.table_format.Goals as goal
 
 pub returns-in-Text : goal.returns-in-Text
 returns-in-Text c = ap table_format (sym c.in-Text.is)

@@ -2,7 +2,7 @@ use Rattle.std.proofs.Common.{◌≡◌, ◌∙◌, ℕ, List, ap, subst}
 use Rattle.cc_draw.specs.ChartDrawing.{chart_text}
 use Rattle.cc_io.specs.Devices.{SendsBytes}
 use Rattle.cli_replay.specs.Charting.{caption_of, charted_text}
-use Rattle.cli_replay.proofs.charting.Charting.write.Goals as goal
+use Rattle.cli_replay.proofs.charting.ChartingTracePrinter.write_end.Goals as goal
 
 pub returns-clause-sends : goal.returns-clause-sends
 returns-clause-sends g c =

@@ -1,0 +1,15 @@
+use Rattle.std.proofs.Common.{◌≡◌, ◌∙◌, Err, Ok, ap, subst, sym}
+use Rattle.std.proofs.lemmas.Result.{err_from_is_err_and}
+use Rattle.cli.specs.Devices.{traffic_on}
+use Rattle.cli.proofs.DeviceLemmas.{on_devices}
+use Rattle.cli_replay.specs.Outputs.{Scripts}
+use Rattle.cli_replay.proofs.OutputLemmas.{stops_taking}
+use Rattle.cli_replay.proofs.replaying.script.Goals as goal
+
+pub returns-in_err-summary-clause-scripts : goal.returns-in_err-summary-clause-scripts
+returns-in_err-summary-clause-scripts g c = λ errors errors_now.
+    let told = err_from_is_err_and c.from_residual-in_err-summary.result c.from_residual-in_err-summary.ensures.1 in
+    let traffic = traffic_on (g.S.Source.state c.args.source.now) (g.S.Source.state c.take.new.source) (g.W.Sink.state c.args.sink.now) (g.W.Sink.state c.take.new.sink) errors errors_now in
+    let begun = g.T.TraceTaker.begun c.args.settings c.args.others.now c.args.reading in
+    on_devices (Scripts (g.T.TraceTaker.Takes begun) g.T.TraceTaker.ran_out traffic) c.from_residual-in_err-summary.result (Err c.in_err-summary.field-0.0) (told.1 ∙ ap Err told.2)
+    (stops_taking g.T.TraceTaker.Takes traffic c.in_err-summary.field-0.0 begun _ c.take.new.taker c.in_ok-taker.ensures.begins c.in_err-summary.ensures.takes)
