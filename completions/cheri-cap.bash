@@ -12,7 +12,7 @@ _cheri_cap() {
     plan) options+=' --slots --align --stats' ;;
     map) options+=' --slots --align --svg' ;;
     replay) options+=' --format --align --realloc --sweep --min --pool --strict --summary --each --sizes --svg --script' ;;
-    decode) options+=' --format --bytes --skip --count --at --holds --perms --unsealed' ;;
+    decode) options+=' --format --bytes --skip --count --at --holds --perms --unsealed --tags' ;;
     show) options+=' --line --format' ;;
     explain) options+=' --svg --length --base' ;;
     annotate) ;;
@@ -43,7 +43,7 @@ _cheri_cap() {
         mapfile -t COMPREPLY < <(compgen -W 'columns text fixed csv json' -- "$word")
       fi
       ;;
-    --list)
+    --list | --tags)
       compopt -o filenames 2>/dev/null
       mapfile -t COMPREPLY < <(compgen -f -- "$word")
       ;;

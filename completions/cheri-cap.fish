@@ -49,4 +49,5 @@ complete -c cheri-cap -n '__fish_seen_subcommand_from decode' -l at -x -d 'Print
 complete -c cheri-cap -n '__fish_seen_subcommand_from decode' -l holds -x -d 'List capabilities to ADDRESS'
 complete -c cheri-cap -n '__fish_seen_subcommand_from decode' -l perms -x -a '(__cheri_cap_perms)' -d 'List capabilities with permissions'
 complete -c cheri-cap -n '__fish_seen_subcommand_from decode' -l unsealed -d 'List unsealed capabilities'
+complete -c cheri-cap -n '__fish_seen_subcommand_from decode' -l tags -r -F -d 'List words tagged in FILE'
 complete -c cheri-cap -n '__fish_seen_subcommand_from run plan map replay decode annotate' -F

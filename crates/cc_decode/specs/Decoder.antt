@@ -5,6 +5,7 @@ use Rattle.cc_decode.specs.Part.{is_part_over, left_after}
 use Rattle.cc_decode.specs.Place.{after_entry}
 use Rattle.cc_decode.specs.Row.{IsWordRow}
 use Rattle.cc_decode.specs.Output.{IsAnswer, IsRowLine, IsUnfinished, IsWordAnswer, refused_text}
+use Rattle.cc_decode.specs.Tags.{lacks_bit}
 use Rattle.cc_decode.specs.declared.decoder.Decoder.{Decoder}
 use Rattle.cc_decode.specs.declared.decoder.PlainDecoder.{PlainDecoder}
 use Rattle.cc_io.specs.declared.format.Format.{Format}
@@ -12,7 +13,7 @@ use Rattle.cc_decode.specs.declared.options.Options.{Options}
 
 -- The options of a plain decoder: no addresses, and no search.
 abbrev pub plain_options : PlainDecoder → Options
-plain_options decoder = record { input = decoder.input; format = decoder.format; at = None; search = None }
+plain_options decoder = record { input = decoder.input; format = decoder.format; at = None; tags = None; search = None }
 
 -- AnswersPlainly holds if `text` is the reply to the entry, and the decoder is unchanged.
 abbrev pub AnswersPlainly : Relation PlainDecoder
@@ -64,7 +65,7 @@ pub record AppendsWord (options : Options) (word : ℕ) (old new : List ℕ) : T
 -- error.
 abbrev pub IsEntryReply : Options → (word : Option ℕ) (text : List ℕ) (is_error : Bool) → Type 0
 IsEntryReply options None text is_error = (text ≡ refused_text options.format options.search) × (is_error ≡ true)
-IsEntryReply options (Some word) text is_error = IsWordAnswer options word text × (is_error ≡ false)
+IsEntryReply options (Some word) text is_error = IsWordAnswer options word text × (is_error ≡ lacks_bit options.tags)
 
 -- AppendsReply holds if the reply to an entry was appended, which is this word, if it is one.
 pub record AppendsReply (options : Options) (word : Option ℕ) (old new : List ℕ) (is_error : Bool) : Type 0 where

@@ -1,6 +1,7 @@
 -- In reading order.
 pub mod Input
 pub mod Row
+pub mod Tags
 pub mod Place
 pub mod Search
 pub mod Output

@@ -1,5 +1,5 @@
 -- The replies to the entries of an input.
-use Rattle.std.specs.Prelude.{◌≡◌, ◌⊎◌, ℕ, true, false, List, [], ◌∷◌, ◌++◌, Option, None, Some, codes, decimal, length, ⊤}
+use Rattle.std.specs.Prelude.{◌≡◌, ◌⊎◌, ℕ, true, List, [], ◌∷◌, ◌++◌, Option, None, Some, codes, decimal, length, ⊤}
 use Rattle.cc_word.specs.declared.refusal.Refusal.TheVariants.{Syntax, Unfinished}
 use Rattle.cc_io.specs.Text.{with_line_feed, refusal_text}
 use Rattle.cc_word.specs.Refusal.{code_of, name_of}
@@ -10,6 +10,7 @@ use Rattle.cc_decode.specs.Input.{IsWordEntry, word_of_entry}
 use Rattle.cc_decode.specs.Place.{after_entry, options_after, place_text}
 use Rattle.cc_decode.specs.Row.{IsWordRow, header_text}
 use Rattle.cc_decode.specs.Search.{IsListedWord}
+use Rattle.cc_decode.specs.Tags.{IsTagged, lacks_bit}
 use Rattle.cc_io.specs.declared.format.Format.{Format}
 use Rattle.cc_io.specs.declared.format.Format.TheVariants.{Columns, Csv, Fixed, Json, Text}
 use Rattle.cc_io.specs.declared.input_form.InputForm.TheVariants.{Lines}
@@ -23,11 +24,15 @@ pub record IsRowLine (format : Format) (at : Option ℕ) (word : ℕ) (text : Li
   pub is_row : IsWordRow format word row
   pub text_is : text ≡ with_line_feed (place_text format at ++ row)
 
--- IsWordAnswer holds if `text` is the reply to a word: its line if it is listed, and otherwise
+-- IsWanted holds if the options request the row of the word, the first to which they apply.
+abbrev pub IsWanted : Options → (word : ℕ) → Type 0
+IsWanted options word = IsTagged options.tags × IsListedWord options.search word
+
+-- IsWordAnswer holds if `text` is the reply to a word: its line if that is requested, and otherwise
 -- nothing.
 abbrev pub IsWordAnswer : Options → (word : ℕ) (text : List ℕ) → Type 0
 IsWordAnswer options word text =
-    (IsListedWord options.search word × IsRowLine options.format options.at word text) ⊎ ((¬ IsListedWord options.search word) × (text ≡ []))
+    (IsWanted options word × IsRowLine options.format options.at word text) ⊎ ((¬ IsWanted options word) × (text ≡ []))
 
 -- The line of a refusal in a format: `error `, its code and its name, or an object with both.
 abbrev pub refusal_line : Format → Refusal → List ℕ
@@ -44,10 +49,11 @@ refused_text format None = refusal_line format Syntax
 refused_text format (Some search) = []
 
 -- IsAnswer holds if the reply is the one to the entry, the first to which the options apply. An
--- entry that is not a word is an error, in a search too.
+-- entry that is not a word is an error, in a search too, and so is a word without a tag bit, if there
+-- are tags.
 abbrev pub IsAnswer : Options → (entry : List ℕ) → Answer → Type 0
 IsAnswer options entry answer =
-    (IsWordEntry options.input entry × IsWordAnswer options (word_of_entry options.input entry) answer.text × (answer.is_error ≡ false))
+    (IsWordEntry options.input entry × IsWordAnswer options (word_of_entry options.input entry) answer.text × (answer.is_error ≡ lacks_bit options.tags))
     ⊎ ((¬ IsWordEntry options.input entry) × (answer.text ≡ refused_text options.format options.search) × (answer.is_error ≡ true))
 
 -- AreAnswers holds if the replies are those to the entries, one for each.
@@ -82,7 +88,7 @@ EndsListing options entries rest text = IsEnding (options_after options (length 
 
 -- The options of a listing in a format of all lines, without addresses.
 abbrev pub plain_lines : Format → Options
-plain_lines format = record { input = Lines; format = format; at = None; search = None }
+plain_lines format = record { input = Lines; format = format; at = None; tags = None; search = None }
 
 -- IsShown holds if `answer` is the listing of one string in a format: the header, and the reply to a line
 -- that is the string.

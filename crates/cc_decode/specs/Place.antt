@@ -5,6 +5,7 @@ use Rattle.cc_decode.specs.Row.{header_text, padded}
 use Rattle.cc_io.specs.declared.format.Format.{Format}
 use Rattle.cc_io.specs.declared.format.Format.TheVariants.{Columns, Csv, Fixed, Json, Text}
 use Rattle.cc_decode.specs.declared.options.Options.{Options}
+use Rattle.cc_decode.specs.Tags.{after_tag}
 
 -- The address of the next word. After the last word of memory it is 0.
 abbrev pub next_address : ℕ → ℕ
@@ -12,7 +13,7 @@ next_address address = (address + 16) % 2 ^ 64
 
 -- The options for the rest of an input after its first entry.
 abbrev pub after_entry : Options → Options
-after_entry options = record options { at = option_map next_address options.at }
+after_entry options = record options { at = option_map next_address options.at; tags = option_map after_tag options.tags }
 
 -- The options for the rest of an input after its first `count` entries.
 abbrev pub options_after : Options → (count : ℕ) → Options

@@ -24,10 +24,11 @@ IsSentry fields = (fields.otype ≡ sentry_type) × IsCanonical (unsealed_word f
 abbrev pub IsTaggable : Fields → Type 0
 IsTaggable fields = IsCanonical (word_of fields) ⊎ IsSentry fields
 
--- GrantsSearch holds if there is a permission, and all those of the search, the type is one that the
--- search finds, and the bounds have the byte at the address of the search, if there is one.
+-- GrantsSearch holds if there are all permissions of the search, and at least one if it needs one, the
+-- type is one that the search finds, and the bounds have the byte at the address of the search, if there
+-- is one.
 pub record GrantsSearch (search : Search) (fields : Fields) (bounds : Span) : Type 0 where
-  pub some : fields.perms ≢ 0
+  pub some : IsTrue search.needs_permission → fields.perms ≢ 0
   pub all : HasAll fields.perms (bits_of search.perms)
   pub kind : IsTrue search.unsealed → fields.otype ≡ unsealed_type
   pub holds : IfSome search.holds (λ address. HasByte bounds address)

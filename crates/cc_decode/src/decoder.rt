@@ -1,5 +1,5 @@
 //! The replies to entries, and the refusal of trailing bytes.
-ghost use Rattle.std.specs.Prelude.{◌≡◌, ◌≤◌, ◌+◌, ◌++◌, ℕ, false, length};
+ghost use Rattle.std.specs.Prelude.{◌≡◌, ◌≤◌, ◌+◌, ◌++◌, ◌↔◌, ℕ, IsTrue, false, length};
 ghost use Rattle.cc_word.specs.declared.refusal.Refusal.TheVariants as RefusalSpec;
 ghost use Rattle.cc_decode.specs.Decoder.{
   AnswersEntry,
@@ -10,7 +10,7 @@ ghost use Rattle.cc_decode.specs.Decoder.{
   EndsPart,
   EndsPlainly,
 };
-ghost use Rattle.cc_decode.specs.Output.{refusal_line};
+ghost use Rattle.cc_decode.specs.Output.{IsWanted, refusal_line};
 ghost use Rattle.cc_decode.specs.Part.{is_part_over, left_after};
 
 use crate::entries::read_entry;
@@ -18,6 +18,7 @@ use crate::options::Options;
 use crate::places::next_place;
 use crate::rows::push_row_line;
 use crate::search::is_listed;
+use crate::tags::{is_tagged, lacks_bit, next_tags};
 use crate::writers::{Batch, ROOM};
 use cc_io::{Answerer, Format, InputForm, refusal_bytes};
 use cc_word::Refusal;
@@ -68,6 +69,7 @@ impl Answerer<ROOM> for PlainDecoder {
             input: self.input,
             format: self.format,
             at: None,
+            tags: None,
             search: None,
         };
         push_unfinished(out, &options, rest);
@@ -78,14 +80,14 @@ impl Answerer<ROOM> for PlainDecoder {
 /// Replies to an entry with the row of its word, if the word is listed, with its address in front,
 /// if it has one. In a search, an entry that is not a word is an error without a reply.
 #[derive(Clone, Copy)]
-pub(crate) struct Decoder {
+pub(crate) struct Decoder<'a> {
     /// The options for the rest of the input.
-    pub(crate) options: Options,
+    pub(crate) options: Options<'a>,
     /// The number of entries that are still decoded, if not all of them are.
     pub(crate) left: Option<u64>,
 }
 
-impl Answerer<ROOM> for Decoder {
+impl<'a> Answerer<ROOM> for Decoder<'a> {
     ghost Answered = { AnswersEntry };
 
     ghost Ended = { EndsPart };
@@ -103,7 +105,9 @@ impl Answerer<ROOM> for Decoder {
     }
 
     #[inline(always)]
-    fn most() -> usize {
+    fn most() -> usize
+        ensures { result ≡ 512 }
+    {
         512
     }
 
@@ -111,6 +115,7 @@ impl Answerer<ROOM> for Decoder {
         let word = read_entry(self.options.input, entry);
         let is_error = push_reply(out, &self.options, word);
         self.options.at = next_place(self.options.at);
+        self.options.tags = next_tags(self.options.tags);
         self.left = fewer(self.left);
         is_error
     }
@@ -133,7 +138,7 @@ fn fewer(left: Option<u64>) -> Option<u64>
 }
 
 /// Appends the reply to trailing bytes: that to the word that they are, if they are one, and then their refusal.
-fn push_unfinished(out: &mut Batch, options: &Options, rest: &[u8])
+fn push_unfinished(out: &mut Batch, options: &Options<'_>, rest: &[u8])
     requires { length out.old + 512 ≤ 32768 }
     ensures { AppendsUnfinished options.now rest.now out.old out.new }
 {
@@ -171,14 +176,14 @@ fn unfinished_refusal(format: Format) -> &'static [u8]
 }
 
 /// Appends the reply to an entry, which is this word, if it is one. Returns whether it is an error.
-fn push_reply(out: &mut Batch, options: &Options, word: Option<u128>) -> bool
+fn push_reply(out: &mut Batch, options: &Options<'_>, word: Option<u128>) -> bool
     requires { length out.old + 512 ≤ 32768 }
     ensures { AppendsReply options.now word out.old out.new result }
 {
     match word {
         Some(word) => {
             push_word(out, options, word);
-            false
+            lacks_bit(options.tags)
         }
         None => {
             if options.search.is_none() {
@@ -189,13 +194,20 @@ fn push_reply(out: &mut Batch, options: &Options, word: Option<u128>) -> bool
     }
 }
 
-/// Appends the line of a word, if the word is listed.
-fn push_word(out: &mut Batch, options: &Options, word: u128)
+/// Appends the line of a word, if the options request it.
+fn push_word(out: &mut Batch, options: &Options<'_>, word: u128)
     requires { length out.old + 474 ≤ 32768 }
     ensures word { AppendsWord options.now word out.old out.new }
     ensures fits { length out.new ≤ length out.old + 474 }
 {
-    if is_listed(options.search, word) {
+    if is_wanted(options, word) {
         push_row_line(out, options.format, options.at, word);
     }
+}
+
+/// Returns whether the options request the row of a word.
+fn is_wanted(options: &Options<'_>, word: u128) -> bool
+    ensures { IsTrue result ↔ IsWanted options.now word }
+{
+    is_tagged(options.tags) && is_listed(options.search, word)
 }

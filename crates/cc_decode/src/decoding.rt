@@ -22,7 +22,8 @@ use cc_io::{
 /// there is none if the input has fewer. After as many as the part has, the rest is not decoded.
 ///
 /// The reply to a word is its row in the format, with its address in front if the options have the
-/// address of the first entry. In a search, only the words that it finds get a reply. The reply to a
+/// address of the first entry. In a search, only the words that it finds get a reply, and if the tags
+/// are known, only tagged ones. A word without a tag bit is then an error without a reply. The reply to a
 /// line that is not 32 hexadecimal digits, with or without `0x` before them, is `error 1 syntax`, or
 /// nothing in a search; it is an error in both cases. The reply to bytes after the last entry,
 /// unless there are none, is that to the word that they are, if they are one, and then
@@ -37,13 +38,13 @@ use cc_io::{
 /// one page of replies is lost (32 KiB).
 pub fn decode_words<R: Source, W: Sink>(
     part: Part,
-    options: Options,
+    options: Options<'_>,
     source: &mut R,
     sink: &mut W,
 ) -> Result<Summary, IoError>
     requires { AreReady (R.state source.old) (W.state sink.old) }
     // If the source does not say which bytes it has, some input has the listing.
-    ensures { Lists part options (R.state source.old) (R.state source.new) (W.state sink.old) (W.state sink.new)
+    ensures { Lists part options.entry (R.state source.old) (R.state source.new) (W.state sink.old) (W.state sink.new)
         result }
 {
     match skip(part.skipped, source) {
@@ -70,10 +71,10 @@ pub fn decode_words<R: Source, W: Sink>(
     }
 }
 
-/// Returns the decoder of all words without addresses, if that is what the options request and all
+/// Returns the decoder of all words without addresses and tags, if that is what the options request and all
 /// entries are decoded.
-fn plain_decoder(count: Option<u64>, options: Options) -> Option<PlainDecoder>
-    ensures options { IfSome result (λ decoder. plain_options decoder ≡ options) }
+fn plain_decoder(count: Option<u64>, options: Options<'_>) -> Option<PlainDecoder>
+    ensures options { IfSome result (λ decoder. plain_options decoder ≡ options.entry) }
     ensures all { IsSome result → count ≡ None }
 {
     if count.is_some() {
@@ -84,6 +85,7 @@ fn plain_decoder(count: Option<u64>, options: Options) -> Option<PlainDecoder>
             input,
             format,
             at: None,
+            tags: None,
             search: None,
         } => Some(PlainDecoder { input, format }),
         _ => None,
@@ -113,7 +115,7 @@ fn list_entries<A: Answerer<ROOM>, R: Source, W: Sink>(
 }
 
 /// Appends the header of a listing.
-fn push_header(page: &mut Batch, options: &Options)
+fn push_header(page: &mut Batch, options: &Options<'_>)
     requires { page.old ≡ [] }
     ensures { page.new ≡ header_of options.now }
 {

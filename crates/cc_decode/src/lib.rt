@@ -14,10 +14,11 @@ mod runs;
 mod search;
 mod showing;
 mod skipping;
+mod tags;
 mod writers;
 
 pub use annotating::annotate;
 pub use cc_io::{ByteOrder, Format, InputForm};
 pub use decoding::decode_words;
-pub use options::{Options, Part, Search};
+pub use options::{Options, Part, Search, Tags};
 pub use showing::show_row;

@@ -69,7 +69,7 @@ fn unsealed(fields: &Fields) -> Fields
 fn grants(search: Search, fields: &Fields, bounds: &Span) -> bool
     ensures { IsTrue result ↔ GrantsSearch search fields.now bounds.now }
 {
-    fields.perms != 0
+    (fields.perms != 0 || !search.needs_permission)
         && Perms::from_bits_retain(fields.perms).contains(search.perms)
         && (!search.unsealed || fields.otype == UNSEALED_TYPE)
         && has_byte(bounds, search.holds)

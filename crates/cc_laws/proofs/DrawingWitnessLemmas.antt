@@ -12,6 +12,7 @@ use Rattle.cc_plan.specs.Plan.{Plan, plan_bytes, plan_spans, is_freed}
 use Rattle.cc_draw.specs.Usage.{IsUsage, asked_bytes_of, largest_of, highest_top, holes, is_swept, pool_span}
 use Rattle.cc_plan.specs.PlannerState.{is_live}
 use Rattle.cc_decode.specs.declared.options.Search.{Search}
+use Rattle.cc_decode.specs.declared.options.Tags.{Tags}
 use Rattle.cc_decode.specs.Correct.{WritesListing}
 use Rattle.cc_decode.specs.Input.{IsWordEntry}
 use Rattle.cc_decode.specs.Output.{refused_text}
@@ -78,10 +79,10 @@ usage = (
 not_word : ¬ IsWordEntry Lines (120 ∷ [])
 not_word is = let count : 1 ≡ 32 = is.0 in absurd (omega (arith, count))
 
-pub listing : (format : Format) (at : Option ℕ) (kind : Option Search) → WritesListing
-    (record { input = Lines; format = format; at = at; search = kind }) (120 ∷ 10 ∷ []) (Some [])
-    (Some (header_of (record { input = Lines; format = format; at = at; search = kind }) ++ (refused_text format kind ++ []) ++ [])) true
-listing format at kind = record {
+pub listing : (format : Format) (at : Option ℕ) (tags : Option Tags) (kind : Option Search) → WritesListing
+    (record { input = Lines; format = format; at = at; tags = tags; search = kind }) (120 ∷ 10 ∷ []) (Some [])
+    (Some (header_of (record { input = Lines; format = format; at = at; tags = tags; search = kind }) ++ (refused_text format kind ++ []) ++ [])) true
+listing format at tags kind = record {
   answers = record { text = refused_text format kind; is_error = true } ∷ [];
   are_answers = (inr (not_word, refl, refl), _);
   ending = [];

@@ -8,6 +8,7 @@ ghost use Rattle.cc_machine.specs.Planned.{plan_of};
 ghost use Rattle.cc_draw.specs.Usage.{IsUsage, pool_span};
 ghost use Rattle.cc_io.specs.declared.format.Format.{Format};
 ghost use Rattle.cc_decode.specs.declared.options.Search.{Search};
+ghost use Rattle.cc_decode.specs.declared.options.Tags.{Tags};
 ghost use Rattle.cc_decode.specs.Correct.{WritesListing};
 ghost use Rattle.cc_decode.specs.Output.{refused_text};
 ghost use Rattle.cc_decode.specs.Place.{header_of};
@@ -51,8 +52,8 @@ fn a_plan_with_its_usage()
 
 /// The listing of a line that is not a word: the refusal of this line.
 fn a_listing_of_a_line()
-    ensures { (format : Format) (at : Option ℕ) (search : Option Search) → WritesListing
-        (record { input = Lines; format = format; at = at; search = search }) (120 ∷ 10 ∷ []) (Some [])
-        (Some (header_of (record { input = Lines; format = format; at = at; search = search }) ++
+    ensures { (format : Format) (at : Option ℕ) (tags : Option Tags) (search : Option Search) → WritesListing
+        (record { input = Lines; format = format; at = at; tags = tags; search = search }) (120 ∷ 10 ∷ []) (Some [])
+        (Some (header_of (record { input = Lines; format = format; at = at; tags = tags; search = search }) ++
         (refused_text format search ++ []) ++ [])) true }
 {}

@@ -3,7 +3,7 @@ ghost use Rattle.std.specs.Prelude.{◌≡◌, false};
 ghost use Rattle.cheri_cap.specs.Replaying.{with_replay};
 
 use cc_bounds::Align;
-use cc_io::{Sink, Summary};
+use cc_io::{Sink, Source, Summary};
 use cc_machine::Machine;
 use cc_values::Usage;
 use clap::Error;
@@ -35,6 +35,10 @@ impl Memory for FullMemory {
 
     fn read_words<'a>(&mut self, words: &'a [&'a str]) -> Result<Invocation<'a>, Error> {
         self.memory.read_words(words)
+    }
+
+    fn read_all<S: Source>(&mut self, source: &mut S) -> Result<Vec<u8>, Fault> {
+        self.memory.read_all(source)
     }
 }
 

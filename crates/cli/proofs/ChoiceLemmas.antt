@@ -9,7 +9,7 @@ use Rattle.clap.specs.Words.{App, FailsBy, HasKind, Kinds, fault_of, kind_of, su
 use Rattle.clap.specs.declared.error.Error.{Error}
 use Rattle.clap.specs.declared.error.kind.ErrorKind.{ErrorKind}
 use Rattle.clap.specs.declared.error.kind.ErrorKind.TheVariants.{OutOfMemory}
-use Rattle.cli.specs.Invocation.{choice_fault, choice_fault_in, faults_of, is_taken, kinds_in, list_fault, value_fault}
+use Rattle.cli.specs.Invocation.{choice_fault, choice_fault_in, faults_of, is_taken, kinds_in, list_fault, value_fault, search_fault}
 
 -- ---- the values of `explain`
 
@@ -43,15 +43,21 @@ size_wanted (Some text) true e = ((text, refl), refl)
 
 -- ---- the values of `decode`
 
--- Values that have no error are all read.
-pub all_read : (skip count at holds perms : Bool) → value_fault (skip && (count && (at && (holds && perms)))) ≡ None
+read_all : (skip count at holds perms : Bool) → value_fault (skip && (count && (at && (holds && perms)))) ≡ None
     → (skip ≡ true) × (count ≡ true) × (at ≡ true) × (holds ≡ true) × (perms ≡ true)
-all_read true true true true true e = (refl, refl, refl, refl, refl)
-all_read true true true true false e = cc e
-all_read true true true false perms e = cc e
-all_read true true false holds perms e = cc e
-all_read true false at holds perms e = cc e
-all_read false count at holds perms e = cc e
+read_all true true true true true e = (refl, refl, refl, refl, refl)
+read_all true true true true false e = cc e
+read_all true true true false perms e = cc e
+read_all true true false holds perms e = cc e
+read_all true false at holds perms e = cc e
+read_all false count at holds perms e = cc e
+
+-- Values that have no error are all read.
+pub all_read : (has_tags has_bytes skip count at holds perms : Bool) → search_fault has_tags has_bytes (skip && (count && (at && (holds && perms)))) ≡ None
+    → (skip ≡ true) × (count ≡ true) × (at ≡ true) × (holds ≡ true) × (perms ≡ true)
+all_read true false skip count at holds perms e = cc e
+all_read true true skip count at holds perms e = read_all skip count at holds perms e
+all_read false has_bytes skip count at holds perms e = read_all skip count at holds perms e
 
 -- A text is given if and only if it has a value.
 pub is_some-now : (found : Option (Bor Text)) → is_some found ≡ is_some (option_map (λ text. text.now) found)

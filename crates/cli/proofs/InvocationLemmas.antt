@@ -409,7 +409,10 @@ module _ (aligns : Bor (List (Bor Text))) (are : texts aligns.now ≡ codes "1" 
               set_gives decode.rules _ refl refl refl refl,
               (
                 set_gives decode.rules _ refl refl refl refl,
-                (flag_gives decode.rules _ refl refl refl refl refl, (set_gives decode.rules _ refl refl refl refl, (help_gives decode.rules, tt))),
+                (
+                  flag_gives decode.rules _ refl refl refl refl refl,
+                  (set_gives decode.rules _ refl refl refl refl, (set_gives decode.rules _ refl refl refl refl, (help_gives decode.rules, tt))),
+                ),
               ),
             ),
           ),

@@ -1,5 +1,6 @@
 -- The inputs, the output and standard error of a command, and its result on them.
 use Rattle.std.specs.Prelude.{◌≡◌, ◌↔◌, ⊤, ℕ, Bool, true, List, Option, Some, IfSome, Result, Ok, Err, OnOk}
+use Rattle.std.specs.Io.KnownBytes.{Consumes, IsAtEnd}
 use Rattle.cc_io.specs.Devices.{InputState, OutputState}
 use Rattle.cc_io.specs.declared.summary.IoError.{IoError}
 use Rattle.cc_io.specs.declared.summary.IoError.TheVariants.{Read, Write}
@@ -35,6 +36,11 @@ pub record Console : Type 0 where
 abbrev pub console_of : (input : InputName → Option (List ℕ)) → (source_now : InputState) → (output output_now errors errors_now : OutputState) → Console
 console_of input source_now output output_now errors errors_now =
     record { input = input; source_now = source_now; output = output; output_now = output_now; errors = errors; errors_now = errors_now }
+
+-- GivesAll holds if the source gave these bytes, and has no more.
+pub record GivesAll (source source_now : InputState) (bytes : List ℕ) : Type 0 where
+  pub given : Consumes source.unread source_now.unread bytes
+  pub ended : IsAtEnd source_now.unread
 
 -- The traffic of these devices.
 abbrev pub traffic_on : (source source_now : InputState) → (output output_now errors errors_now : OutputState) → Traffic

@@ -1,5 +1,5 @@
 -- The input that FILE names.
-use Rattle.std.specs.Prelude.{Option, Some, None, codes, if◌then◌else◌, ⊤}
+use Rattle.std.specs.Prelude.{◌≡◌, Bool, Option, Some, None, codes, false, if◌then◌else◌, ⊤}
 use Rattle.std.specs.Borrow.{Bor}
 use Rattle.std.specs.Str.{bytes_eq}
 use Rattle.clap.specs.Words.{Text}
@@ -19,6 +19,16 @@ file_input (Some path) = if bytes_eq path.now (codes "-") then Standard else Fil
 abbrev pub IsFile : InputName → Type 0
 IsFile Standard = ⊥
 IsFile (File path) = ⊤
+
+-- OpensFile holds if a file is opened, for the input or for its tags.
+abbrev pub OpensFile : (tags : Option (Bor Text)) (input : InputName) → Type 0
+OpensFile None input = IsFile input
+OpensFile (Some path) input = ⊤
+
+-- AreUnasked holds if the last input that was requested is neither this one nor the file of its tags.
+abbrev pub AreUnasked : (tags : Option (Bor Text)) (input : InputName) → Content → (last_asked : InputName → Content → Bool) → Type 0
+AreUnasked None input content last_asked = last_asked input content ≡ false
+AreUnasked (Some path) input content last_asked = (last_asked input content ≡ false) × (last_asked (File path) content ≡ false)
 
 -- The content of the trace of `replay`, by its output.
 abbrev pub trace_content : Option ReplayOutput → Content

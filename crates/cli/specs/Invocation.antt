@@ -130,8 +130,8 @@ abbrev pub HasWordAlone : List Row → (word : Text) → Type 0
 HasWordAlone rows word =
     (first_of (codes "word") rows ≡ Some word) × (first_of (codes "length") rows ≡ None) × (first_of (codes "base") rows ≡ None)
 
--- `HasDecodeValues` holds if the numbers and the permissions are those that the values of these options are, or `None` for those that
--- are not given, and `unsealed` says whether `--unsealed` is given.
+-- `HasDecodeValues` holds if the numbers, the permissions and the file are those that the values of these options are, or `None` for
+-- those that are not given, and `unsealed` says whether `--unsealed` is given.
 pub record HasDecodeValues (rows : List Row) (values : DecodeValues) : Type 0 where
   pub skip : IsRead address_in (first_of (codes "skip") rows) values.skip
   pub count : IsRead address_in (first_of (codes "count") rows) values.count
@@ -139,6 +139,7 @@ pub record HasDecodeValues (rows : List Row) (values : DecodeValues) : Type 0 wh
   pub holds : IsRead address_in (first_of (codes "holds") rows) values.holds
   pub perms : IsRead permissions_in (first_of (codes "perms") rows) values.perms
   pub unsealed : values.unsealed ≡ is_on (first_of (codes "unsealed") rows)
+  pub tags : first_of (codes "tags") rows ≡ option_map (λ text. text.now) values.tags
 
 -- The output of `replay` by the format of tables and the options that are given: the summary without one. `None` if two are given.
 abbrev pub replay_output : SummaryFormat → (sizes svg script : Bool) → (each : Option (Bor Text)) → Option ReplayOutput
@@ -250,9 +251,13 @@ abbrev pub list_fault_of : List Row → Option ErrorKind
 list_fault_of rows =
     list_fault (is_some (first_of (codes "list") rows)) (is_some (first_of (codes "length") rows)) (is_read address_in (first_of (codes "base") rows))
 
+-- The kind of error of the given values, if there is one: `--tags` requires `--bytes`, and the others are read.
+abbrev pub search_fault : (has_tags has_bytes is_read : Bool) → Option ErrorKind
+search_fault has_tags has_bytes is_read = if has_tags && not has_bytes then Some MissingRequiredArgument else value_fault is_read
+
 -- The kind of error of the values of `decode` in these rows, if there is one.
 abbrev pub search_fault_of : List Row → Option ErrorKind
-search_fault_of rows = value_fault
+search_fault_of rows = search_fault (is_some (first_of (codes "tags") rows)) (is_some (first_of (codes "bytes") rows))
     (is_read address_in (first_of (codes "skip") rows) && (is_read address_in (first_of (codes "count") rows)
     && (is_read address_in (first_of (codes "at") rows)
     && (is_read address_in (first_of (codes "holds") rows) && is_read permissions_in (first_of (codes "perms") rows)))))

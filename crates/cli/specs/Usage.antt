@@ -108,16 +108,17 @@ format_names = codes "columns" ∷ codes "text" ∷ codes "fixed" ∷ codes "csv
 abbrev pub order_names : List Text
 order_names = codes "little" ∷ codes "big" ∷ []
 
--- A command with `[--skip N] [--count N] [--at START] [--holds ADDRESS] [--perms NAMES] [--unsealed]`
--- added.
+-- A command with `[--skip N] [--count N] [--at START] [--holds ADDRESS] [--perms NAMES] [--unsealed]
+-- [--tags FILE]` added.
 abbrev pub with_search : App → App
 with_search command =
     let part = with_rule (with_rule command (valued_option (codes "skip"))) (valued_option (codes "count")) in
     let places = with_rule (with_rule part (valued_option (codes "at"))) (valued_option (codes "holds")) in
-    with_rule (with_rule places (valued_option (codes "perms"))) (flag_option (codes "unsealed"))
+    let kinds = with_rule (with_rule places (valued_option (codes "perms"))) (flag_option (codes "unsealed")) in
+    with_rule kinds (valued_option (codes "tags"))
 
 -- The command `decode [--format FORMAT] [--bytes ORDER] [--skip N] [--count N] [--at START]
--- [--holds ADDRESS] [--perms NAMES] [--unsealed] [FILE]`.
+-- [--holds ADDRESS] [--perms NAMES] [--unsealed] [--tags FILE] [FILE]`.
 abbrev pub decode_command : (formats orders : Bor (List (Bor Text))) → App
 decode_command formats orders =
     let options = with_rule (with_rule (new_app (codes "decode")) (choice_option (codes "format") formats)) (choice_option (codes "bytes") orders) in

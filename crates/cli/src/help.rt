@@ -326,6 +326,9 @@ pub(crate) const PERMISSIONS_FORM: &str =
 
 pub(crate) const DECODE_USAGE: &str = "cheri-cap decode [OPTIONS] [FILE]";
 
+/// The message if `--tags` is given without `--bytes`.
+pub(crate) const TAGS_CHOICE: &str = "give `--bytes ORDER` with `--tags FILE`";
+
 pub(crate) const DECODE_ABOUT: &str = "Decodes words, one on each line";
 
 pub(crate) const FORMAT_HELP: &str = "\
@@ -350,6 +353,9 @@ pub(crate) const PERMISSIONS_HELP: &str =
     "List only words that could be capabilities with these permissions, joined by `+`";
 
 pub(crate) const UNSEALED_HELP: &str = "List only words that could be unsealed capabilities";
+
+pub(crate) const TAGS_HELP: &str =
+    "List only words whose bit is set in FILE: one for each 16 bytes of the input, the lowest of a byte first";
 
 pub(crate) const WORDS_FILE_HELP: &str = "File of words; standard input if `-` or omitted";
 
@@ -381,6 +387,10 @@ their bounds contain ADDRESS; and they have at least one permission, and all of 
 permission, so it is never listed. TYPE is 3ffff for an unsealed word, 3fffe for a sentry, and another
 for a sealed one; --unsealed omits sentries and sealed words. For a line that is not a word, prints
 nothing, but the exit status is 1.
+
+With --tags, lists only tagged words, which then need no permission. Bit i counts from the start of the
+input, also after skipped bytes. If FILE has no bit for a word, prints nothing for it, but the exit
+status is 1; further bits are ignored.
 
 The exit status is 0, or 1 if a line of output is an error, 2 for an invalid command line, and 3 if
 FILE cannot be opened, or the input or output failed.

@@ -37,7 +37,7 @@ pub trait Inputs {
     /// The source of an input.
     type Opened: Source;
 
-    // The bytes of an input, if they are known.
+    // The bytes of an input, if they are known. Opening an input does not change them.
     ghost bytes_of: { Self → InputNameSpec → Option (List ℕ) };
 
     // Whether the last input that was requested is this one, with this content.
@@ -58,6 +58,7 @@ pub trait Inputs {
     ) -> Result<(), Fault>
         ensures opened { OnOk result (IfSome (bytes_of self.old input.entry)
             (λ bytes. (Self.Opened.state source.new).unread ≡ Some bytes)) }
+        ensures kept { bytes_of self.new ≡ bytes_of self.old }
         ensures fails { IfErr result (λ fault. (fault ≡ Fault.Open) × IsFile input.entry) }
         ensures asked { last_asked self.new input.entry content ≡ true }
         ensures refused { IsErr result ↔ (has_refused self.new ≡ true) }

@@ -13,9 +13,9 @@ pub struct PoolTexts<'a> {
     pub length: &'a str,
 }
 
-/// The values of the options of `decode` that are numbers or names, and whether `--unsealed` is given.
+/// The values of the options of `decode` that are numbers, names or a file, and whether `--unsealed` is given.
 #[derive(Clone, Copy)]
-pub struct DecodeValues {
+pub struct DecodeValues<'a> {
     /// The number of bytes to skip.
     pub skip: Option<u64>,
     /// The maximum number of words to decode.
@@ -28,6 +28,8 @@ pub struct DecodeValues {
     pub perms: Option<Perms>,
     /// Whether only unsealed words are listed.
     pub unsealed: bool,
+    /// The name of the file of the tags.
+    pub tags: Option<&'a str>,
 }
 
 /// The format of the summary of `replay`.
@@ -128,14 +130,15 @@ pub enum Invocation<'a> {
         file: Option<&'a str>,
     },
     /// `decode [--format FORMAT] [--bytes ORDER] [--skip N] [--count N] [--at START] [--holds ADDRESS] [--perms NAMES]
-    /// [--unsealed] [FILE]`: lists the content of each word of a text or of raw bytes, or of those that a search finds.
+    /// [--unsealed] [--tags FILE] [FILE]`: lists the content of each word of a text or of raw bytes, or of those that a
+    /// search finds or that are tagged.
     Decode {
         /// The form of the words in the input.
         input: InputForm,
         /// The format of the output.
         format: Format,
         /// The values of the other options.
-        values: DecodeValues,
+        values: DecodeValues<'a>,
         /// The words' file; `None` and `-` are standard input.
         file: Option<&'a str>,
     },

@@ -1,14 +1,20 @@
 //! The memory of the process, for what a command allocates.
-ghost use Rattle.std.specs.Prelude.{◌≡◌, ◌↔◌, Bool, IfErr, IfOk, MatchResult, false, true};
+ghost use Rattle.std.specs.Prelude.{◌≡◌, ◌⊎◌, ◌↔◌, Bool, Err, IfErr, IfOk, MatchResult, false, true};
 ghost use Rattle.clap.specs.Walk.{texts};
 ghost use Rattle.clap.specs.Words.{App, FailsBy, kind_of, subcommand_of};
+ghost use Rattle.cli.specs.Devices.{GivesAll};
 ghost use Rattle.cli.specs.Invocation.{IsInvocation, IsProgram, faults_of, is_taken};
 
+use crate::fault::Fault;
 use crate::invocation::Invocation;
 use crate::reading::read_words;
+use cc_io::{Failed, Source};
 use clap::Error;
 use clap::error::ErrorKind;
 use std::alloc::Global;
+
+/// The maximum number of bytes in one read of [`Memory::read_all`].
+const PIECE: usize = 16384;
 
 /// The memory for what a command allocates.
 pub trait Memory {
@@ -25,6 +31,17 @@ pub trait Memory {
         ensures kinds { (app : App) × IsProgram app × FailsBy (faults_of app (texts words.now)) result }
         ensures fails { MatchResult result (λ invocation. Self.has_failed self.new ≡ false)
             (λ error. (kind_of error ≡ ErrorKind.OutOfMemory) ↔ (Self.has_failed self.new ≡ true)) };
+
+    /// Reads all bytes of a source.
+    ///
+    /// Requires: the source has not failed.
+    /// Errors: `Read` if and only if the source failed, and `Memory` if and only if an allocation failed.
+    fn read_all<S: Source>(&mut self, source: &mut S) -> Result<Vec<u8>, Fault>
+        requires { (S.state source.old).has_failed ≡ false }
+        ensures gives { IfOk result (λ bytes. GivesAll (S.state source.old) (S.state source.new) bytes.items) }
+        ensures read { (result ≡ Err Fault.Read) ↔ ((S.state source.new).has_failed ≡ true) }
+        ensures fails { (result ≡ Err Fault.Memory) ↔ (Self.has_failed self.new ≡ true) }
+        ensures others { IfErr result (λ fault. (fault ≡ Fault.Read) ⊎ (fault ≡ Fault.Memory)) };
 }
 
 /// The memory of the process.
@@ -58,5 +75,36 @@ impl Memory for GlobalMemory {
             Err(error) => matches!(error.kind(), ErrorKind::OutOfMemory),
         };
         read
+    }
+
+    fn read_all<S: Source>(&mut self, source: &mut S) -> Result<Vec<u8>, Fault> {
+        let read = read_all(self.alloc, source);
+        self.has_failed = matches!(&read, Err(Fault::Memory));
+        read
+    }
+}
+
+/// Reads all bytes of a source.
+#[inline(never)]
+fn read_all<S: Source>(alloc: Global, source: &mut S) -> Result<Vec<u8>, Fault>
+    requires { (S.state source.old).has_failed ≡ false }
+    ensures gives { IfOk result (λ bytes. GivesAll (S.state source.old) (S.state source.new) bytes.items) }
+    ensures read { (result ≡ Err Fault.Read) ↔ ((S.state source.new).has_failed ≡ true) }
+    ensures others { IfErr result (λ fault. (fault ≡ Fault.Read) ⊎ (fault ≡ Fault.Memory)) }
+{
+    let mut bytes = Vec::new(alloc);
+    let mut piece = [0u8; PIECE];
+    'pieces: loop {
+        let count = match source.read(&mut piece) {
+            Ok(count) => count,
+            Err(Failed) => return Err(Fault::Read),
+        };
+        if count == 0 {
+            return Ok(bytes);
+        }
+        match bytes.extend_from_slice(&piece[..count]) {
+            Ok(()) => {}
+            Err(_) => return Err(Fault::Memory),
+        }
     }
 }

@@ -4,7 +4,7 @@ ghost use Rattle.clap.specs.Words.{kind_of};
 
 use crate::help::{
     ADDRESS_FORM, DECODE_USAGE, EXPLAIN_CHOICE, EXPLAIN_USAGE, PERMISSIONS_FORM, ROUND_CHOICE,
-    ROUND_USAGE, SHOW_CHOICE, SHOW_USAGE,
+    ROUND_USAGE, SHOW_CHOICE, SHOW_USAGE, TAGS_CHOICE,
 };
 use crate::table::{Kind, Row, rows_named};
 use crate::values::{are_permissions, is_address, value_of};
@@ -56,6 +56,7 @@ fn choice_message<'a>(name: &str) -> &'a str {
     match name {
         "explain" => EXPLAIN_CHOICE,
         "show" => SHOW_CHOICE,
+        "decode" => TAGS_CHOICE,
         _ => ROUND_CHOICE,
     }
 }

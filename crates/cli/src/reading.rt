@@ -129,10 +129,14 @@ fn show_fault(show: &ArgMatches<'_>) -> Option<ErrorKind>
     }
 }
 
-/// Returns the kind of error of the values of `decode`, if there is one: numbers and permissions.
+/// Returns the kind of error of the values of `decode`, if there is one: `--tags` requires `--bytes`, and numbers and
+/// permissions are of their form.
 fn search_fault(decode: &ArgMatches<'_>) -> Option<ErrorKind>
     ensures { result ≡ search_fault_of (rows_of (found_of decode.now)) }
 {
+    if has_value(decode, "tags") && !has_value(decode, "bytes") {
+        return Some(ErrorKind::MissingRequiredArgument);
+    }
     value_fault(
         is_address(decode, "skip")
             && is_address(decode, "count")

@@ -11,8 +11,8 @@ use crate::help::{
     REPLAY_AFTER_HELP, REQUEST_BASE_HELP, REQUEST_LENGTH_HELP, ROUND_ABOUT, ROUND_AFTER_HELP,
     ROUND_BASE_HELP, RUN_ABOUT, RUN_AFTER_HELP, SCRIPT_HELP, SHOW_ABOUT, SHOW_AFTER_HELP,
     SHOWN_FORMAT_HELP, SIZES_HELP, SKIP_HELP, SLOTS_HELP, STATS_HELP, STRICT_HELP, SUMMARY_HELP,
-    SVG_HELP, SWEEP_HELP, TEXT_FILE_HELP, TRACE_FILE_HELP, TRACE_FORMAT_HELP, UNSEALED_HELP,
-    WINDOW_SVG_HELP, WORD_HELP, WORDS_FILE_HELP,
+    SVG_HELP, SWEEP_HELP, TAGS_HELP, TEXT_FILE_HELP, TRACE_FILE_HELP, TRACE_FORMAT_HELP,
+    UNSEALED_HELP, WINDOW_SVG_HELP, WORD_HELP, WORDS_FILE_HELP,
 };
 
 /// The subject of the help of an argument.
@@ -60,6 +60,8 @@ pub(crate) enum Topic {
     Permissions,
     /// `UNSEALED_HELP`.
     Unsealed,
+    /// `TAGS_HELP`.
+    Tags,
     /// `WORDS_FILE_HELP`.
     WordsFile,
     /// `WINDOW_SVG_HELP`.
@@ -141,6 +143,7 @@ pub(crate) fn help<'a>(topic: Topic) -> &'a str {
         Topic::Holds => HOLDS_HELP,
         Topic::Permissions => PERMISSIONS_HELP,
         Topic::Unsealed => UNSEALED_HELP,
+        Topic::Tags => TAGS_HELP,
         Topic::WordsFile => WORDS_FILE_HELP,
         Topic::WindowSvg => WINDOW_SVG_HELP,
         Topic::TextFile => TEXT_FILE_HELP,
@@ -535,6 +538,12 @@ const COMMANDS: &[CommandRow] = &[
                 name: "unsealed",
                 placeholder: "",
                 topic: Topic::Unsealed,
+            },
+            Row {
+                kind: Kind::Valued,
+                name: "tags",
+                placeholder: "FILE",
+                topic: Topic::Tags,
             },
             Row {
                 kind: Kind::Free,

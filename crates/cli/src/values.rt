@@ -117,8 +117,8 @@ pub(crate) fn pool_texts<'a>(matches: &ArgMatches<'a>) -> PoolTexts<'a>
     }
 }
 
-/// Returns the values of the options of `decode` that are numbers or names, and whether `--unsealed` is given.
-pub(crate) fn decode_values(matches: &ArgMatches<'_>) -> DecodeValues
+/// Returns the values of the options of `decode` that are numbers, names or a file, and whether `--unsealed` is given.
+pub(crate) fn decode_values<'a>(matches: &ArgMatches<'a>) -> DecodeValues<'a>
     requires { search_fault_of (rows_of (found_of matches.now)) ≡ None }
     ensures { HasDecodeValues (rows_of (found_of matches.now)) result }
 {
@@ -129,6 +129,7 @@ pub(crate) fn decode_values(matches: &ArgMatches<'_>) -> DecodeValues
         holds: address_of(matches, "holds"),
         perms: permissions_of(matches, "perms"),
         unsealed: is_on(matches, "unsealed"),
+        tags: value_of(matches, "tags"),
     }
 }
 

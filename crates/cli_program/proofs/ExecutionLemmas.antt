@@ -10,7 +10,7 @@ use Rattle.cli.specs.declared.input.InputName.{InputName}
 use Rattle.cli.specs.declared.invocation.Invocation.{Invocation}
 use Rattle.cli.specs.declared.fault.Fault.{Fault}
 use Rattle.cli.specs.Devices.{Console, OnDevices}
-use Rattle.cli.specs.Input.{IsFile}
+use Rattle.cli.specs.Input.{OpensFile}
 use Rattle.cli_scripts.specs.declared.report.Terminals.{Terminals}
 use Rattle.cli_program.specs.Execution.{Effect, IsUnasked, ReplayCommand, effect_of, with_values}
 
@@ -36,7 +36,7 @@ starves_if (Ok values) effect console is_ok holds = holds values
 starves_if (Err refusal) effect console is_ok holds = absurd (false≢true is_ok)
 
 pub opens : {Values : Type 0} (found : Result Values Refusal) (effect : Values → Effect)
-    → ((values : Values) → IfSome (effect values).input (λ asked. IsFile asked.input)) → IfSome (with_values found effect).input (λ asked. IsFile asked.input)
+    → ((values : Values) → IfSome (effect values).input (λ asked. OpensFile asked.tags asked.input)) → IfSome (with_values found effect).input (λ asked. OpensFile asked.tags asked.input)
 opens (Ok values) effect holds = holds values
 opens (Err refusal) effect holds = tt
 

@@ -7,7 +7,7 @@ use Rattle.cc_machine.specs.State.{initial_state}
 use Rattle.cli.specs.Devices.{Console, OnDevices}
 use Rattle.cli_program.specs.Execution.{Asked, Effect, IsUnasked, ReplayCommand, Script, effect_of, script_of}
 use Rattle.cli.specs.Invocation.{IsInvocation}
-use Rattle.cli.specs.Input.{IsFile}
+use Rattle.cli.specs.Input.{OpensFile}
 use Rattle.cli.specs.Outcome.{ending_of}
 use Rattle.cli.specs.declared.input.Content.{Content}
 use Rattle.cli.specs.declared.input.Content.TheVariants as content
@@ -60,7 +60,7 @@ pub record EndsEffect (effect : Effect) (console : Console) (failures : Failures
   pub result : Result Summary Fault
   pub executes : OnDevices (effect.Does console) result
   pub fails : TellsFailures failures result
-  pub opens : result ≡ Err fault.Open → IfSome effect.input (λ asked. IsFile asked.input)
+  pub opens : result ≡ Err fault.Open → IfSome effect.input (λ asked. OpensFile asked.tags asked.input)
   pub untouched : result ≡ Err fault.Open → console.output_now.taken ≡ console.output.taken
   pub asks : ReadsAsked effect.input failures
   pub starves : result ≡ Err fault.Memory → effect.Starves console

@@ -1,6 +1,6 @@
 -- The effect of each command on its devices: the program's own theorem.
 use Rattle.std.specs.Borrow.{Bor}
-use Rattle.std.specs.Prelude.{ℕ, ◌≡◌, false, IsTrue, Bool, [], List, ⊤, None, Option, Result, Ok, Err, Some}
+use Rattle.std.specs.Prelude.{ℕ, ◌≡◌, IsSome, IsTrue, Bool, [], List, ⊤, None, Option, Result, Ok, Err, Some}
 use Rattle.std.specs.Option.{option_map}
 use Rattle.std.specs.Result.{result_ok}
 use Rattle.clap.specs.Words.{Text}
@@ -20,23 +20,24 @@ use Rattle.cli.specs.declared.invocation.Invocation.{Invocation}
 use Rattle.cli.specs.declared.invocation.ReplayTexts.{ReplayTexts}
 use Rattle.cli.specs.declared.invocation.Invocation.TheVariants.{Annotate, Ask, Decode, Map, Plan, Replay, RoundList, Run}
 use Rattle.cli.specs.Devices.{Console, FromInput, Traffic}
-use Rattle.cli.specs.Input.{file_input}
+use Rattle.cli.specs.Input.{AreUnasked, file_input}
 use Rattle.cli_words.specs.Listing.{options_of, part_of}
 use Rattle.cli_words.specs.Questions.{has_hint}
-use Rattle.cli_words.specs.Tasks.{AnnotatesWords, AnswersQuestion, ListsWords, RoundsLengths}
+use Rattle.cli_words.specs.Tasks.{AnnotatesWords, AnswersQuestion, ListsInput, RoundsLengths}
 use Rattle.cli_scripts.specs.Report.{report_of}
 use Rattle.cli_scripts.specs.Runs.{DrawsRun, ReportsRun, StarvesRun}
 use Rattle.cli_scripts.specs.declared.report.Report.{Report}
 use Rattle.cli_scripts.specs.declared.report.Terminals.{Terminals}
 
--- An input that is requested, and its content.
+-- An input that is requested, its content, and the file of its tags, if there is one.
 pub record Asked : Type 0 where
   pub input : InputName
   pub content : Content
+  pub tags : Option (Bor Text)
 
--- IsUnasked holds if the last input that was requested is not this one.
+-- IsUnasked holds if the last input that was requested is not this one, nor the file of its tags.
 abbrev pub IsUnasked : Option Asked → (last_asked : InputName → Content → Bool) → Type 0
-IsUnasked (Some asked) last_asked = last_asked asked.input asked.content ≡ false
+IsUnasked (Some asked) last_asked = AreUnasked asked.tags asked.input asked.content last_asked
 IsUnasked None last_asked = ⊤
 
 -- The effect of a command on its devices:
@@ -58,7 +59,7 @@ WritesNothing console = console.output_now.taken ≡ console.output.taken
 -- The effect of a command that reads this input.
 abbrev pub reads : InputName → Content → (Does : Traffic → Result Summary IoError → Type 0) (Starves : Console → Type 0) (Reports : Type 0) → Effect
 reads input content Does Starves Reports = record {
-  input = Some (record { input = input; content = content });
+  input = Some (record { input = input; content = content; tags = None });
   Does = λ console. FromInput input console Does;
   Starves = Starves;
   Reports = Reports;
@@ -119,8 +120,12 @@ effect_of replay terminals (Map limit pool align svg file) =
     with_values (pool_of pool.base.now pool.length.now)
     (λ numbers. reads (file_input file) content.Pool (DrawsRun svg (plan_opening numbers.0 numbers.1 align) (initial_state limit)) WritesNothing ⊥)
 effect_of replay terminals (Replay align strict texts file) = replay.effect align strict texts file
-effect_of replay terminals (Decode input format values file) =
-    reads (file_input file) content.Words (ListsWords (part_of values) (options_of input format values)) (λ console. ⊥) (IsTrue terminals.errors)
+effect_of replay terminals (Decode input format values file) = record {
+  input = Some (record { input = file_input file; content = content.Words; tags = values.tags });
+  Does = ListsInput values.tags (file_input file) (part_of values) (options_of input format values);
+  Starves = λ console. IsSome values.tags × WritesNothing console;
+  Reports = IsTrue terminals.errors;
+}
 effect_of replay terminals (Annotate file) = reads (file_input file) content.Words AnnotatesWords (λ console. ⊥) ⊥
 effect_of replay terminals (RoundList base file) =
     reads (file_input (Some file)) content.Words (RoundsLengths base terminals.errors) (λ console. ⊥) (IsTrue terminals.errors)

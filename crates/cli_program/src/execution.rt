@@ -3,7 +3,7 @@ ghost use Rattle.std.specs.Prelude.{◌≡◌, ◌↔◌, false, true, Err, IfSo
 ghost use Rattle.clap.specs.Words.{Row, Text};
 ghost use Rattle.cli.specs.Invocation.{IsInvocation};
 ghost use Rattle.cli.specs.Devices.{IsEnd, OnDevices, console_of};
-ghost use Rattle.cli.specs.Input.{IsFile};
+ghost use Rattle.cli.specs.Input.{OpensFile};
 ghost use Rattle.cli_program.specs.Execution.{IsUnasked, effect_of};
 
 use crate::replay_memory::ReplayMemory;
@@ -20,9 +20,9 @@ use cli_words::{annotate_file, ask, decode_file, round_file};
 ///
 /// Requires: no device has failed.
 /// Errors: `Memory`, `Open`, `Read` and `Write`, each if and only if an allocation, the opening of the command's input,
-/// a read of it, or the sink failed. Memory is allocated by commands that create a machine or a heap. Nothing is
-/// reported then. If the error is `Open`, or if it is `Memory` in `map` or in `replay` without `--each` and `--script`,
-/// nothing was written to `sink` either.
+/// a read of it, or the sink failed. Memory is allocated by commands that create a machine or a heap, and for the tags
+/// of `decode`. Nothing is reported then. If the error is `Open`, or if it is `Memory` in `decode`, `map`, or `replay`
+/// without `--each` and `--script`, nothing was written to `sink` either.
 pub fn execute<M: RunMemory + ReplayMemory, I: Inputs, W: Sink, E: Sink>(
     memory: &mut M,
     invocation: Invocation<'_>,
@@ -44,15 +44,15 @@ pub fn execute<M: RunMemory + ReplayMemory, I: Inputs, W: Sink, E: Sink>(
         (console_of (I.bytes_of inputs.old) (I.Opened.state source.new) (W.state sink.old) (W.state sink.new)
         (E.state errors.old) (E.state errors.new))) result }
     // If memory runs out in `run` or `plan`, nothing was written, or, with `--stats`, the whole
-    // output; in `map`, and in `replay` without `--each` and `--script`, nothing. Only a command that
-    // creates a machine or a heap runs out of memory.
+    // output; in `decode`, in `map`, and in `replay` without `--each` and `--script`, nothing. Only a
+    // command that creates a machine or a heap, or has a file of tags, runs out of memory.
     ensures starved { result ≡ Err Fault.Memory → (effect_of M.command terminals invocation.entry).Starves
         (console_of (I.bytes_of inputs.old) (I.Opened.state source.new) (W.state sink.old) (W.state sink.new)
         (E.state errors.old) (E.state errors.new)) }
     ensures allocates { (result ≡ Err Fault.Memory) ↔ (M.has_failed memory.new ≡ true) }
-    // Opening fails only for a FILE that is given and is not `-`.
+    // Opening fails only for a FILE that is given and is not `-`, and for a file of tags.
     ensures open { result ≡ Err Fault.Open → IfSome (effect_of M.command terminals invocation.entry).input
-        (λ asked. IsFile asked.input) }
+        (λ asked. OpensFile asked.tags asked.input) }
     // Unless the last input that was requested is the command's, neither inputs nor source were
     // used. A command with refused arguments has no input.
     ensures asked { IsUnasked (effect_of M.command terminals invocation.entry).input (I.last_asked inputs.new)
@@ -101,6 +101,7 @@ pub fn execute<M: RunMemory + ReplayMemory, I: Inputs, W: Sink, E: Sink>(
             file,
         } => {
             decode_file(
+                memory,
                 input,
                 format,
                 values,

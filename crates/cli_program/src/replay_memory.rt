@@ -3,7 +3,7 @@ ghost use Rattle.std.specs.Prelude.{◌≡◌, ◌↔◌, Err, IfOk, IfSome, Mat
 ghost use Rattle.clap.specs.Words.{FailsBy, kind_of};
 ghost use Rattle.cc_io.specs.Devices.{OutputState};
 ghost use Rattle.cli.specs.Devices.{IsEnd, OnOutput, console_of};
-ghost use Rattle.cli.specs.Input.{IsFile};
+ghost use Rattle.cli.specs.Input.{OpensFile};
 ghost use Rattle.cli.specs.Invocation.{kinds_in, value_fault};
 ghost use Rattle.cli_program.specs.Execution.{IsUnasked, ReplayCommand, no_replay};
 
@@ -59,7 +59,8 @@ pub trait ReplayMemory: Memory {
             errors errors_now) }
         ensures allocates { (result ≡ Err Fault.Memory) ↔ (Self.has_failed self.new ≡ true) }
         ensures open { result ≡ Err Fault.Open
-            → IfSome (command.effect align strict texts.entry file.entry).input (λ asked. IsFile asked.input) }
+            → IfSome (command.effect align strict texts.entry file.entry).input
+            (λ asked. OpensFile asked.tags asked.input) }
         ensures asked { IsUnasked (command.effect align strict texts.entry file.entry).input (I.last_asked inputs.new)
             → (inputs.new ≡ inputs.old) × (source.new ≡ source.old) }
         ensures end { IsEnd (I.has_refused inputs.new) (I.Opened.state source.new) (W.state sink.old)

@@ -1,5 +1,7 @@
 -- The output of `decode`, and of `round` for a list, with its hint.
-use Rattle.std.proofs.Common.{◌≡◌, ℕ, ◌≤◌, ◌-◌, Bool, false, ◌&&◌, ◌||◌, List, [], drop, Option, Some, None, IfSome, Result, Ok, Err, refl, subst}
+use Rattle.std.proofs.Common.{◌≡◌, ℕ, ◌≤◌, ◌-◌, Bool, false, ◌&&◌, ◌||◌, List, [], drop, Option, Some, None, IfSome, Result, Ok, Err, inr, refl, subst, sym}
+use Rattle.std.specs.Borrow.{Bor}
+use Rattle.clap.specs.Words.{Text}
 use Rattle.std.specs.Prelude.{OnErr, OnOk, is_err, true}
 use Rattle.std.proofs.lemmas.Bool.{false≢true}
 use Rattle.std.specs.List.{list_any}
@@ -8,18 +10,20 @@ use Rattle.cc_io.specs.declared.summary.IoError.{IoError}
 use Rattle.cc_io.specs.declared.summary.Summary.{Summary}
 use Rattle.cc_decode.specs.declared.options.Options.{Options}
 use Rattle.cc_decode.specs.declared.options.Part.{Part}
-use Rattle.cc_io.specs.Devices.{InputState}
+use Rattle.cc_io.specs.Devices.{InputState, OutputState}
 use Rattle.cc_decode.specs.Correct.{Lists}
 use Rattle.cc_decode.proofs.SkipLemmas.{lists_further}
 use Rattle.cli.specs.declared.question.Base.{Base}
-use Rattle.cli.specs.Devices.{Console, FromInput, OnDevices}
+use Rattle.cli.specs.Devices.{Console, FromInput, OnDevices, console_of}
+use Rattle.cli.proofs.DeviceLemmas.{on_devices-map}
 use Rattle.cli_words.specs.BareDigits.{is_bare}
 use Rattle.cli_words.specs.NumberHint.{after_base, hint_if}
 use Rattle.cli_words.specs.Questions.{address_of}
-use Rattle.cli_words.specs.Tasks.{ListsWords, RoundsLengths, SeesLengths}
+use Rattle.cli_words.specs.Tasks.{ListsInput, ListsWords, RoundsLengths, SeesLengths}
 use Rattle.cli.specs.declared.fault.Fault.{Fault}
 use Rattle.cli.specs.declared.fault.Fault.TheVariants as fault
 use Rattle.cli.specs.declared.input.InputName.{InputName}
+use Rattle.cli.specs.declared.input.InputName.TheVariants.{File}
 
 -- The rows of the words of an equal input, in an equal listing.
 pub lists_alike : (part other : Part) (options others : Options) (name input : InputName) (console : Console) (result : Result Summary Fault)
@@ -29,6 +33,27 @@ lists_alike part other options others name input console result is_part is_optio
     subst (λ (n : InputName). OnDevices (FromInput n console (ListsWords other others)) result) is_name
     (subst (λ (o : Options). OnDevices (FromInput name console (ListsWords other o)) result) is_options
     (subst (λ (p : Part). OnDevices (FromInput name console (ListsWords p options)) result) is_part f))
+
+-- The rows of the words of an input without tags.
+pub lists_untagged : (tags : Option (Bor Text)) (input : InputName) (part : Part) (options : Option (Bor (List ℕ)) → Options) (console : Console) (result : Result Summary Fault)
+    → tags ≡ None → OnDevices (FromInput input console (ListsWords part (options None))) result → OnDevices (ListsInput tags input part options console) result
+lists_untagged tags input part options console result none f =
+    subst (λ (t : Option (Bor Text)). OnDevices (ListsInput t input part options console) result) (sym none) f
+
+-- The rows of the tagged words of an input, after the tags were read.
+pub lists_tagged : (tags : Option (Bor Text)) (path : Bor Text) (input : InputName) (part : Part) (options : Option (Bor (List ℕ)) → Options) (bits : Bor (List ℕ))
+    (items : List ℕ) (known bytes_of : InputName → Option (List ℕ)) (source_now : InputState) (output output_now errors errors_now : OutputState) (result : Result Summary Fault)
+    → tags ≡ Some path → bits.now ≡ items → known ≡ bytes_of → IfSome (bytes_of (File path)) (λ bytes. items ≡ bytes)
+    → OnDevices (FromInput input (console_of known source_now output output_now errors errors_now) (ListsWords part (options (Some bits)))) result
+    → OnDevices (ListsInput tags input part options (console_of bytes_of source_now output output_now errors errors_now)) result
+lists_tagged tags path input part options bits items known bytes_of source_now output output_now errors errors_now result given same kept read f =
+    let tagged : IfSome (bytes_of (File path)) (λ bytes. bits.now ≡ bytes) = subst (λ (l : List ℕ). IfSome (bytes_of (File path)) (λ bytes. l ≡ bytes)) (sym same) read in
+    let console : Console = console_of bytes_of source_now output output_now errors errors_now in
+    subst (λ (t : Option (Bor Text)). OnDevices (ListsInput t input part options console) result) (sym given)
+    (on_devices-map (FromInput input console (ListsWords part (options (Some bits)))) (ListsInput (Some path) input part options console)
+    (λ io lists. inr (bits, tagged, lists)) result
+    (subst (λ (k : InputName → Option (List ℕ)). OnDevices (FromInput input (console_of k source_now output output_now errors errors_now) (ListsWords part (options (Some bits)))) result)
+    kept f))
 
 own : (bytes : Option (List ℕ)) → IfSome bytes (λ known. bytes ≡ Some known)
 own None = tt

@@ -1,9 +1,12 @@
 -- The output of the commands that run no script, by their input.
-use Rattle.std.specs.Prelude.{◌≡◌, ℕ, Bool, false, ◌&&◌, ◌||◌, [], OnOk, Option, Result, IfOk, IsTrue, ◌↔◌}
+use Rattle.std.specs.Prelude.{◌≡◌, ℕ, Bool, false, ◌&&◌, ◌||◌, ◌⊎◌, [], List, OnOk, Option, None, Some, Result, Err, IfOk, IfSome, IsTrue, ◌↔◌}
+use Rattle.std.specs.Borrow.{Bor}
+use Rattle.clap.specs.Words.{Text}
 use Rattle.std.specs.List.{list_any}
 use Rattle.std.specs.Io.KnownBytes.{Appends}
 use Rattle.cc_io.specs.Devices.{OutputState}
 use Rattle.cc_io.specs.declared.summary.IoError.{IoError}
+use Rattle.cc_io.specs.declared.summary.IoError.TheVariants.{Read}
 use Rattle.cc_io.specs.declared.summary.Summary.{Summary}
 use Rattle.cc_io.specs.CommandOutput.{WritesAnswer}
 use Rattle.cli_words.specs.BareDigits.{is_bare}
@@ -14,7 +17,9 @@ use Rattle.cc_decode.specs.Annotate.{AnnotatesGiven}
 use Rattle.cc_decode.specs.Correct.{Lists}
 use Rattle.cli.specs.declared.question.Base.{Base}
 use Rattle.cli.specs.declared.question.Question.{Question}
-use Rattle.cli.specs.Devices.{Traffic}
+use Rattle.cli.specs.Devices.{Console, FromInput, Traffic}
+use Rattle.cli.specs.declared.input.InputName.{InputName}
+use Rattle.cli.specs.declared.input.InputName.TheVariants.{File}
 use Rattle.cli_words.specs.NumberHint.{after_base, hint_if}
 use Rattle.cli_words.specs.Questions.{address_of, IsAnswerTo, IsUnanswerable, question_hint}
 
@@ -28,6 +33,19 @@ pub record AnswersQuestion (question : Question) (hints : Bool) (output output_n
 -- ListsWords holds if the rows of the words of the part that the input gave were written, up to a failure.
 abbrev pub ListsWords : Part → Options → Traffic → Result Summary IoError → Type 0
 ListsWords part options traffic result = Lists part options traffic.source traffic.source_now traffic.output traffic.output_now result
+
+-- ListsTagged holds if the rows of the tagged words were written, up to a failure, for options with the bytes of the file of the tags;
+-- or reading the tags failed, and nothing was written.
+abbrev pub ListsTagged : (file input : InputName) (part : Part) (options : Bor (List ℕ) → Options) → Console → Result Summary IoError → Type 0
+ListsTagged file input part options console result =
+    ((result ≡ Err Read) × (console.output_now.taken ≡ console.output.taken))
+    ⊎ ((bits : Bor (List ℕ)) × IfSome (console.input file) (λ bytes. bits.now ≡ bytes) × FromInput input console (ListsWords part (options bits)) result)
+
+-- ListsInput holds if the rows of the words of an input were written, up to a failure: of the tagged ones, if there is a file of tags.
+abbrev pub ListsInput : (tags : Option (Bor Text)) (input : InputName) (part : Part) (options : Option (Bor (List ℕ)) → Options) → Console
+    → Result Summary IoError → Type 0
+ListsInput None input part options console result = FromInput input console (ListsWords part (options None)) result
+ListsInput (Some path) input part options console result = ListsTagged (File path) input part (λ bits. options (Some bits)) console result
 
 -- AnnotatesWords holds if the text that the input gave was written, with the line of each word after the word, up to a failure.
 abbrev pub AnnotatesWords : Traffic → Result Summary IoError → Type 0

@@ -1,14 +1,14 @@
 //! The listing that the values of `decode` request.
-ghost use Rattle.std.specs.Prelude.{◌≡◌};
-ghost use Rattle.cli_words.specs.Listing.{options_of, part_of, search_of};
+ghost use Rattle.std.specs.Prelude.{◌≡◌, option_map, unwrap_or};
+ghost use Rattle.cli_words.specs.Listing.{options_of, part_of, search_of, tags_after};
 
 use bitflags::Flags;
-use cc_decode::{Format, InputForm, Options, Part, Search};
+use cc_decode::{Format, InputForm, Options, Part, Search, Tags};
 use cc_word::Perms;
 use cli::DecodeValues;
 
 /// Returns the part of the input that is listed.
-pub(crate) fn part_of(values: &DecodeValues) -> Part
+pub(crate) fn part_of(values: &DecodeValues<'_>) -> Part
     ensures { result ≡ part_of values.now }
 {
     Part {
@@ -17,21 +17,45 @@ pub(crate) fn part_of(values: &DecodeValues) -> Part
     }
 }
 
-/// Returns the options of the listing.
-pub(crate) fn options_of(input: InputForm, format: Format, values: &DecodeValues) -> Options
-    ensures { result ≡ options_of input format values.now }
+/// Returns the options of the listing. `bits` are the bytes of the file of the tags, if there is one.
+pub(crate) fn options_of<'a>(
+    input: InputForm,
+    format: Format,
+    values: &DecodeValues<'_>,
+    bits: Option<&'a [u8]>,
+) -> Options<'a>
+    ensures { result ≡ options_of input format values.now bits.entry }
 {
     Options {
         input,
         format,
         at: values.at,
-        search: search_of(values.holds, values.perms, values.unsealed),
+        tags: tags_after(values.skip, bits),
+        search: search_of(bits.is_some(), values.holds, values.perms, values.unsealed),
+    }
+}
+
+/// Returns the tags of the words after the skipped bytes, if there are tags.
+fn tags_after<'a>(skipped: Option<u64>, bits: Option<&'a [u8]>) -> Option<Tags<'a>>
+    ensures { result ≡ option_map (tags_after (unwrap_or skipped 0)) bits.entry }
+{
+    match bits {
+        Some(bits) => Some(Tags {
+            bits,
+            place: skipped.unwrap_or(0) / 16,
+        }),
+        None => None,
     }
 }
 
 /// Returns the search of `--holds`, `--perms` and `--unsealed`, or `None` if none is given.
-fn search_of(holds: Option<u64>, perms: Option<Perms>, unsealed: bool) -> Option<Search>
-    ensures { result ≡ search_of holds perms unsealed }
+fn search_of(
+    tagged: bool,
+    holds: Option<u64>,
+    perms: Option<Perms>,
+    unsealed: bool,
+) -> Option<Search>
+    ensures { result ≡ search_of tagged holds perms unsealed }
 {
     if holds.is_none() && perms.is_none() && !unsealed {
         return None;
@@ -39,6 +63,7 @@ fn search_of(holds: Option<u64>, perms: Option<Perms>, unsealed: bool) -> Option
     Some(Search {
         holds,
         perms: perms.unwrap_or(Perms::empty()),
+        needs_permission: !tagged,
         unsealed,
     })
 }

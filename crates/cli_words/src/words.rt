@@ -1,9 +1,9 @@
 //! `decode`, `annotate` and `round --list`: the call for the words or the lengths of an input.
-ghost use Rattle.std.specs.Prelude.{◌≡◌, ◌≢◌, IsTrue, false, Err, OnErr};
+ghost use Rattle.std.specs.Prelude.{◌≡◌, ◌≢◌, ◌↔◌, IfOk, IfSome, IsSome, IsTrue, false, true, Err, OnErr};
 ghost use Rattle.cli.specs.Devices.{FromInput, IsEnd, OnDevices, OnOutput, console_of};
-ghost use Rattle.cli.specs.Input.{IsFile, file_input};
+ghost use Rattle.cli.specs.Input.{AreUnasked, IsFile, OpensFile, file_input};
 ghost use Rattle.cli_words.specs.Listing.{options_of, part_of};
-ghost use Rattle.cli_words.specs.Tasks.{AnnotatesWords, ListsWords, RoundsLengths, SeesLengths};
+ghost use Rattle.cli_words.specs.Tasks.{AnnotatesWords, ListsInput, ListsWords, RoundsLengths, SeesLengths};
 
 use crate::file_hint::hint_file;
 use crate::length_list::round_list;
@@ -12,18 +12,96 @@ use crate::number_hint::hint_list;
 use crate::questions::address_of;
 use cc_decode::{Format, InputForm, Options, Part, annotate, decode_words};
 use cc_io::{Sink, Summary};
-use cli::{Base, Content, DecodeValues, Fault, InputName, Inputs, file_input};
+use cli::{Base, Content, DecodeValues, Fault, InputName, Inputs, Memory, file_input};
 
-/// Writes a row for each listed word of the part of the input that FILE names. Then writes the hint on an ELF file, or
-/// on lines that end in CR LF, to `errors`, if hints are given and a file was decoded from its first byte on.
+/// Writes a row for each listed word of the part of the input that FILE names, of the tagged ones if there is a file of
+/// tags, which is read first. Then writes the hint on an ELF file, or on lines that end in CR LF, to `errors`, if hints
+/// are given and a file was decoded from its first byte on.
 ///
 /// Requires: no device has failed.
-/// Errors: `Open` if the input cannot be opened, and nothing was written then; `Read` if a read fails; `Write` if and
-/// only if the sink failed. No hint is written then.
-pub fn decode_file<I: Inputs, W: Sink, E: Sink>(
+/// Errors: `Open` if the input or the file of the tags cannot be opened, and nothing was written then; `Memory` if the
+/// tags do not fit in memory, and nothing was written then; `Read` if a read fails; `Write` if and only if the sink
+/// failed. No hint is written then.
+pub fn decode_file<M: Memory, I: Inputs, W: Sink, E: Sink>(
+    memory: &mut M,
     input: InputForm,
     format: Format,
-    values: DecodeValues,
+    values: DecodeValues<'_>,
+    hints: bool,
+    inputs: &mut I,
+    source: &mut I::Opened,
+    file: Option<&str>,
+    sink: &mut W,
+    errors: &mut E,
+) -> Result<Summary, Fault>
+    requires memory { M.has_failed memory.old ≡ false }
+    requires source { (I.Opened.state source.old).has_failed ≡ false }
+    requires inputs { I.has_refused inputs.old ≡ false }
+    requires sink { (W.state sink.old).has_failed ≡ false }
+    requires errors { (E.state errors.old).has_failed ≡ false }
+    ensures decodes { OnOutput (I.bytes_of inputs.old) (I.Opened.state source.new) (W.state sink.old) (W.state sink.new)
+        (ListsInput values.entry.tags (file_input file.entry) (part_of values.entry)
+        (options_of input format values.entry)) result }
+    ensures silent { ¬ IsTrue hints → errors.new ≡ errors.old }
+    ensures unreported { OnErr result (errors.new ≡ errors.old) }
+    ensures open { result ≡ Err Fault.Open → OpensFile values.entry.tags (file_input file.entry) }
+    ensures allocates { (result ≡ Err Fault.Memory) ↔ (M.has_failed memory.new ≡ true) }
+    ensures starved { result ≡ Err Fault.Memory → IsSome values.entry.tags × (sink.new ≡ sink.old) }
+    ensures asked { AreUnasked values.entry.tags (file_input file.entry) Content.Words (I.last_asked inputs.new)
+        → (inputs.new ≡ inputs.old) × (source.new ≡ source.old) }
+    ensures end { IsEnd (I.has_refused inputs.new) (I.Opened.state source.new) (W.state sink.old) (W.state sink.new)
+        result }
+{
+    match values.tags {
+        None => {
+            list_file(
+                input, format, values, None, hints, inputs, source, file, sink, errors,
+            )
+        }
+        Some(path) => match read_tags(memory, path, inputs, source) {
+            Ok(bits) => {
+                let bits = Some(bits.as_slice());
+                list_file(
+                    input, format, values, bits, hints, inputs, source, file, sink, errors,
+                )
+            }
+            Err(fault) => Err(fault),
+        },
+    }
+}
+
+/// Reads the tags that a file has.
+///
+/// Errors: `Open`, `Read` and `Memory`, if the file cannot be opened, or a read of it or an allocation fails.
+fn read_tags<M: Memory, I: Inputs>(
+    memory: &mut M,
+    path: &str,
+    inputs: &mut I,
+    source: &mut I::Opened,
+) -> Result<Vec<u8>, Fault>
+    requires memory { M.has_failed memory.old ≡ false }
+    ensures reads { IfOk result (λ bits. IfSome (I.bytes_of inputs.old (InputName.File path.entry))
+        (λ bytes. bits.items ≡ bytes)) }
+    ensures kept { I.bytes_of inputs.new ≡ I.bytes_of inputs.old }
+    ensures open { (result ≡ Err Fault.Open) ↔ (I.has_refused inputs.new ≡ true) }
+    ensures read { (result ≡ Err Fault.Read) ↔ ((I.Opened.state source.new).has_failed ≡ true) }
+    ensures allocates { (result ≡ Err Fault.Memory) ↔ (M.has_failed memory.new ≡ true) }
+    ensures unwritten { result ≢ Err Fault.Write }
+    ensures asked { I.last_asked inputs.new (InputName.File path.entry) Content.Words ≡ true }
+{
+    match inputs.open(InputName::File(path), Content::Words, source) {
+        Ok(()) => memory.read_all(source),
+        Err(fault) => Err(fault),
+    }
+}
+
+/// Writes a row for each listed word of the part of the input that FILE names, and then the hints as [`decode_file`]
+/// does. `bits` are the bytes of the file of the tags, if there is one.
+fn list_file<I: Inputs, W: Sink, E: Sink>(
+    input: InputForm,
+    format: Format,
+    values: DecodeValues<'_>,
+    bits: Option<&[u8]>,
     hints: bool,
     inputs: &mut I,
     source: &mut I::Opened,
@@ -35,9 +113,9 @@ pub fn decode_file<I: Inputs, W: Sink, E: Sink>(
     requires inputs { I.has_refused inputs.old ≡ false }
     requires sink { (W.state sink.old).has_failed ≡ false }
     requires errors { (E.state errors.old).has_failed ≡ false }
-    ensures decodes { OnOutput (I.bytes_of inputs.old) (I.Opened.state source.new) (W.state sink.old) (W.state sink.new)
-        (λ console. FromInput (file_input file.entry) console (ListsWords (part_of values)
-        (options_of input format values))) result }
+    ensures lists { OnOutput (I.bytes_of inputs.old) (I.Opened.state source.new) (W.state sink.old) (W.state sink.new)
+        (λ console. FromInput (file_input file.entry) console (ListsWords (part_of values.entry)
+        (options_of input format values.entry bits.entry))) result }
     ensures silent { ¬ IsTrue hints → errors.new ≡ errors.old }
     ensures unreported { OnErr result (errors.new ≡ errors.old) }
     ensures open { result ≡ Err Fault.Open → IsFile (file_input file.entry) }
@@ -48,7 +126,7 @@ pub fn decode_file<I: Inputs, W: Sink, E: Sink>(
         result }
 {
     let part = part_of(&values);
-    let options = options_of(input, format, &values);
+    let options = options_of(input, format, &values, bits);
     let result = list_words(part, options, inputs, source, file_input(file), sink);
     if result.is_err() {
         return result;
@@ -63,7 +141,7 @@ pub fn decode_file<I: Inputs, W: Sink, E: Sink>(
 #[inline(never)]
 fn list_words<I: Inputs, W: Sink>(
     part: Part,
-    options: Options,
+    options: Options<'_>,
     inputs: &mut I,
     source: &mut I::Opened,
     input: InputName<'_>,
@@ -73,7 +151,7 @@ fn list_words<I: Inputs, W: Sink>(
     requires inputs { I.has_refused inputs.old ≡ false }
     requires sink { (W.state sink.old).has_failed ≡ false }
     ensures lists { OnOutput (I.bytes_of inputs.old) (I.Opened.state source.new) (W.state sink.old) (W.state sink.new)
-        (λ console. FromInput input.entry console (ListsWords part options)) result }
+        (λ console. FromInput input.entry console (ListsWords part options.entry)) result }
     ensures open { result ≡ Err Fault.Open → IsFile input.entry }
     ensures memory { result ≢ Err Fault.Memory }
     ensures asked { I.last_asked inputs.new input.entry Content.Words ≡ false → (inputs.new ≡ inputs.old)

@@ -5,7 +5,7 @@ use Rattle.cc_syntax.specs.Planning.{plan_opening, pool_of}
 use Rattle.cli.specs.declared.fault.Fault.TheVariants as fault
 use Rattle.cli.specs.declared.input.Content.TheVariants as content
 use Rattle.cli.specs.Devices.{FromInput, OnDevices, console_of}
-use Rattle.cli.specs.Input.{IsFile, file_input}
+use Rattle.cli.specs.Input.{OpensFile, file_input}
 use Rattle.cli_scripts.specs.Report.{report_of}
 use Rattle.cli_scripts.specs.Runs.{DrawsRun, PlansFile, ReportsRun, StarvesPlan}
 use Rattle.cli_scripts.specs.declared.report.Report.{Report}
@@ -54,7 +54,7 @@ returns-in-Plan-clause-starved g c =
 
 pub returns-in-Plan-clause-open : goal.returns-in-Plan-clause-open
 returns-in-Plan-clause-open g c =
-    of_equal (λ (effect : Effect). c.plan_file.result ≡ Err fault.Open → IfSome effect.input (λ asked. IsFile asked.input))
+    of_equal (λ (effect : Effect). c.plan_file.result ≡ Err fault.Open → IfSome effect.input (λ asked. OpensFile asked.tags asked.input))
     g.M.ReplayMemory.command c.args.terminals _ _ c.in-Plan.is
     (λ refused. opens (pool_of c.in-Plan.pool.base.now c.in-Plan.pool.length.now) (λ numbers. script_run (report_of c.in-Plan.stats c.args.terminals) (Some numbers.1)
     (pool_script c.in-Plan.limit c.in-Plan.align (file_input c.in-Plan.file) numbers)) (λ values. c.plan_file.ensures.open refused))
@@ -101,7 +101,7 @@ returns-in-Map-clause-starved g c =
 
 pub returns-in-Map-clause-open : goal.returns-in-Map-clause-open
 returns-in-Map-clause-open g c =
-    of_equal (λ (effect : Effect). c.map_file.result ≡ Err fault.Open → IfSome effect.input (λ asked. IsFile asked.input))
+    of_equal (λ (effect : Effect). c.map_file.result ≡ Err fault.Open → IfSome effect.input (λ asked. OpensFile asked.tags asked.input))
     g.M.ReplayMemory.command c.args.terminals _ _ c.in-Map.is
     (λ refused. opens (pool_of c.in-Map.pool.base.now c.in-Map.pool.length.now) (λ numbers. reads (file_input c.in-Map.file) content.Pool
     (DrawsRun c.in-Map.svg (plan_opening numbers.0 numbers.1 c.in-Map.align) (initial_state c.in-Map.limit)) WritesNothing ⊥) (λ values. c.map_file.ensures.open refused))
