@@ -4,7 +4,8 @@ ghost use Rattle.clap.specs.Words.{rule_of};
 ghost use Rattle.cli.specs.Usage.{argument_of, choice_option, flag_option, optional_argument, slots_option};
 ghost use Rattle.cli.specs.Usage.{valued_option, wanted_argument};
 
-use crate::table::{Choices, Kind, Row, help};
+use crate::help::help;
+use crate::table::{Choices, Kind, Row};
 use clap::builder::ValueParser;
 use clap::{Arg, ArgAction};
 use std::alloc::Global;

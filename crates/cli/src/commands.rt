@@ -5,8 +5,10 @@ ghost use Rattle.clap.specs.declared.builder.command.Command.TheViews.{out-Comma
 ghost use Rattle.cli.specs.Usage.{bare_program, command_of, explain_command, program, with_arguments};
 
 use crate::arguments::argument;
-use crate::help::{ABOUT, AFTER_HELP, EXPLAIN_ABOUT, EXPLAIN_AFTER_HELP, EXPLAIN_USAGE, VERSION};
-use crate::table::{Choices, CommandRow, Row, about, after_help, commands, explain_rows};
+use crate::help::{
+    ABOUT, AFTER_HELP, EXPLAIN_ABOUT, EXPLAIN_AFTER_HELP, EXPLAIN_USAGE, VERSION, about, after_help,
+};
+use crate::table::{Choices, CommandRow, Row, commands, explain_rows};
 use clap::Command;
 use std::alloc::{AllocError, Global};
 
