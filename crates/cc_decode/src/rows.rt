@@ -323,7 +323,8 @@ fn push_names(batch: &mut Batch, perms: u16)
 /// two.
 fn push_values(batch: &mut Batch, separator: u8, word: u128, decoded: &Decoded, canonical: bool)
     requires { length batch.old + 300 ≤ 32768 }
-    ensures value { batch.new ≡ batch.old ++ values_text (separator ∷ []) word decoded.now.fields decoded.now.bounds canonical }
+    ensures value { batch.new ≡ batch.old
+        ++ values_text (separator ∷ []) word decoded.now.fields decoded.now.bounds canonical }
     ensures fits { length batch.new ≤ length batch.old + 150 }
 {
     push_bounds(batch, separator, word, &decoded.bounds);

@@ -9,12 +9,14 @@ joined old rights bounds key value close first second third new p q r s = rw (s,
 
 pub returns-then-canonical-clause-value : goal.returns-then-canonical-clause-value
 returns-then-canonical-clause-value c =
-    joined c.args.batch.now (json_rights c.args.word c.args.decoded.now.fields) (json_bounds c.args.decoded.now.fields c.args.decoded.now.bounds) (codes "\",\"canonical\":") (codes "true") (codes "}") _ _ _
+    joined c.args.batch.now (json_rights c.args.word c.args.decoded.now.fields) (json_bounds c.args.decoded.now.fields c.args.decoded.now.bounds)
+    (codes "\",\"canonical\":") (codes "true") (codes "}") _ _ _
     c.push-then-canonical.new.self c.push_json_rights.ensures.value c.push_json_bounds.ensures.value c.push.ensures c.push-then-canonical.ensures
     ∙ ap (λ (canonical : Bool). c.args.batch.now ++ json_text c.args.word c.args.decoded.now.fields c.args.decoded.now.bounds canonical) (sym c.if-canonical.true)
 
 pub returns-else-canonical-clause-value : goal.returns-else-canonical-clause-value
 returns-else-canonical-clause-value c =
-    joined c.args.batch.now (json_rights c.args.word c.args.decoded.now.fields) (json_bounds c.args.decoded.now.fields c.args.decoded.now.bounds) (codes "\",\"canonical\":") (codes "false") (codes "}") _ _ _
+    joined c.args.batch.now (json_rights c.args.word c.args.decoded.now.fields) (json_bounds c.args.decoded.now.fields c.args.decoded.now.bounds)
+    (codes "\",\"canonical\":") (codes "false") (codes "}") _ _ _
     c.push-else-canonical.new.self c.push_json_rights.ensures.value c.push_json_bounds.ensures.value c.push.ensures c.push-else-canonical.ensures
     ∙ ap (λ (canonical : Bool). c.args.batch.now ++ json_text c.args.word c.args.decoded.now.fields c.args.decoded.now.bounds canonical) (sym c.if-canonical.false)
