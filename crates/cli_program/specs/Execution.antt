@@ -1,6 +1,6 @@
 -- The effect of each command on its devices: the program's own theorem.
 use Rattle.std.specs.Borrow.{Bor}
-use Rattle.std.specs.Prelude.{ℕ, ◌≡◌, IsSome, IsTrue, Bool, [], List, ⊤, None, Option, Result, Ok, Err, Some}
+use Rattle.std.specs.Prelude.{ℕ, ◌≡◌, false, IsSome, IsTrue, Bool, [], List, ⊤, None, Option, Result, Ok, Err, Some}
 use Rattle.std.specs.Option.{option_map}
 use Rattle.std.specs.Result.{result_ok}
 use Rattle.clap.specs.Words.{Text}
