@@ -1,11 +1,14 @@
 -- The command `replay` of the program.
 use Rattle.std.specs.Borrow.{Bor}
-use Rattle.std.specs.Prelude.{List, Option, is_ok}
+use Rattle.std.specs.Prelude.{◌≡◌, Bool, List, Option, Result, is_ok}
 use Rattle.clap.specs.Words.{Text}
 use Rattle.cc_bounds.specs.declared.align.Align.{Align}
 use Rattle.cc_formats.specs.declared.reading.Reading.{Reading}
 use Rattle.cc_heap.specs.declared.policy.Policy.{Policy}
 use Rattle.cc_heap.specs.declared.settings.Settings.{Settings}
+use Rattle.cc_io.specs.declared.summary.IoError.{IoError}
+use Rattle.cc_io.specs.declared.summary.Summary.{Summary}
+use Rattle.cli.specs.Devices.{Console}
 use Rattle.cli.specs.Input.{file_input, trace_content}
 use Rattle.cli.specs.declared.invocation.ReplayOutput.{ReplayOutput}
 use Rattle.cli.specs.declared.invocation.ReplayTexts.{ReplayTexts}
@@ -25,3 +28,20 @@ with_replay = record {
   accepts = λ align strict texts. is_ok (replay_in align strict texts);
   effect = λ align strict texts file. with_values (replay_in align strict texts) (trace_replay texts file);
 }
+
+-- IsReplay holds if a command accepts exactly the texts that `with_replay` does and requests the same input, and if `with_replay` has
+-- every effect that it has.
+pub record IsReplay (command : ReplayCommand) : Type 0 where
+  pub accepts : (align : Align) (strict : Bool) (texts : ReplayTexts) → command.accepts align strict texts ≡ with_replay.accepts align strict texts
+  pub input :
+      (align : Align) (strict : Bool) (texts : ReplayTexts) (file : Option (Bor Text))
+      → (command.effect align strict texts file).input ≡ (with_replay.effect align strict texts file).input
+  pub does :
+      (align : Align) (strict : Bool) (texts : ReplayTexts) (file : Option (Bor Text)) (console : Console) (result : Result Summary IoError)
+      → (command.effect align strict texts file).Does console result → (with_replay.effect align strict texts file).Does console result
+  pub starves :
+      (align : Align) (strict : Bool) (texts : ReplayTexts) (file : Option (Bor Text)) (console : Console)
+      → (command.effect align strict texts file).Starves console → (with_replay.effect align strict texts file).Starves console
+  pub reports :
+      (align : Align) (strict : Bool) (texts : ReplayTexts) (file : Option (Bor Text))
+      → (command.effect align strict texts file).Reports → (with_replay.effect align strict texts file).Reports

@@ -1,6 +1,6 @@
 //! The memory of the program with `replay`.
 ghost use Rattle.std.specs.Prelude.{◌≡◌, false};
-ghost use Rattle.cheri_cap.specs.Replaying.{with_replay};
+ghost use Rattle.cheri_cap.specs.Replaying.{IsReplay, with_replay};
 
 use cc_bounds::Align;
 use cc_io::{Sink, Source, Summary};
@@ -22,7 +22,9 @@ pub struct FullMemory {
 impl FullMemory {
     /// Creates the memory of the process.
     pub fn new(alloc: Global) -> Self
-        ensures { ⟦<FullMemory as Memory>⟧.has_failed result ≡ false }
+        ensures works { ⟦<FullMemory as Memory>⟧.has_failed result ≡ false }
+        // A program over this memory has the command `replay`.
+        ensures replays { IsReplay ⟦<FullMemory as ReplayMemory>⟧.command }
     {
         FullMemory {
             memory: GlobalMemory::new(alloc),

@@ -10,7 +10,7 @@ ghost use Rattle.cli_program.specs.Execution.{IsUnasked, effect_of};
 ghost use Rattle.cli_program.specs.Refusals.{EndsByArguments, FindsReplay, FindsTexts, has_good_texts};
 ghost use Rattle.cli.specs.Devices.{console_of};
 ghost use Rattle.cli.specs.Invocation.{IsInvocation, IsProgram, is_taken, kinds_in, value_fault};
-ghost use Rattle.cli.specs.Outcome.{EndsOn};
+ghost use Rattle.cli.specs.Outcome.{EndsOn, status_of};
 
 use crate::execution::execute;
 use crate::replay_memory::ReplayMemory;
@@ -36,6 +36,7 @@ pub fn run_program<
     M: RunMemory + ReplayMemory,
 >(rt: &R, memory: &mut M, terminals: Terminals) -> u8
     requires { M.has_failed memory.old ≡ false }
+    ensures { (end : EndingSpec) × (result ≡ status_of end) }
 {
     let reason = Reason::new(terminals.errors);
     let ending = answer_arguments(rt, memory, terminals, &reason);
