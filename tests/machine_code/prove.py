@@ -383,11 +383,12 @@ def moved(_, ends, wanted):
 
 def offset(_, ends, wanted):
     """set_offset: first that the code adds the number to the word's base, and then, as for increment, for every new address."""
-    added = [fields["low"] for _, fields in ends if not z3.is_bv_value(fields["low"])]
-    if not added:
+    made = [it for it in ends if not z3.is_bv_value(it[1]["low"])]
+    if not made:
         raise NotProved("no word", None)
-    base = z3.simplify(z3.substitute(added[0], (NUMBER, bv(0, 64))))
-    never(z3.Or(*[it != base + NUMBER for it in added]), "the new address")
+    low = merged(made, "low")
+    base = z3.simplify(z3.substitute(low, (NUMBER, bv(0, 64))))
+    never(low != base + NUMBER, "the new address", CASES["word"])
     never(base != model.decode(functions.WORD)[0], "the base", CASES["word"])
     term = differing(ends, functions.moved(base + NUMBER))
     by_cases(z3.simplify(z3.substitute(term, (NUMBER, NUMBER - base))), "the result", "word")
