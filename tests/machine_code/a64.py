@@ -168,6 +168,8 @@ class A64(Lifter):
             part = z3.LShR(a, lowest) & mask if name in ("ubfx", "bfxil") else (a & mask) << lowest
             kept = {"bfi": ~(mask << lowest), "bfxil": ~mask}.get(name, bv(0, size))
             put(get(0) & kept | part)
+        elif name == "sbfx":
+            put(z3.SignExt(size - number(3), bits(get(1), number(2) + number(3) - 1, number(2))))
         elif name in ("uxtb", "uxth", "uxtw"):
             put(wide(low(self.read(state, one.reg_name(operands[1].reg)), {"b": 8, "h": 16, "w": 32}[name[3]]), size))
         elif name == "clz":
