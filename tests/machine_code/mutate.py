@@ -68,9 +68,11 @@ print("wrong" if steps.differences(image.machine, codes, 20) else "equal")
 def said(program, path, *names, change=None, inputs=0):
     """Returns the output of a program on a copy of these files, in one of which a text is replaced by another. Before it asks z3, it compares
     that many random inputs."""
-    with tempfile.TemporaryDirectory() as directory:
-        for file in HERE.glob("*.py"):
-            shutil.copy(file, directory)
+    with tempfile.TemporaryDirectory() as top:
+        directory = Path(top, "tests/machine_code")
+        shutil.copytree(HERE, directory, ignore=shutil.ignore_patterns("__pycache__"))
+        # functions.py reads the header
+        shutil.copytree(HERE.parents[1] / "include", Path(top, "include"))
         if change:
             name, old, new = change
             text = (HERE / name).read_text()
