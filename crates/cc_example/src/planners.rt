@@ -1,7 +1,7 @@
 //! Placers and planners are created at the second attempt if an allocation failed at the first. In
 //! an ordinary run none fails; `tests/opening` lets each allocation of these tests fail in turn.
 use cc_cap::Cap;
-use cc_gaps::GapPlacer;
+use cc_machine::GapPlacer;
 use cc_placers::{ScanPlacer, SortedPlacer};
 use cc_plan::{ObjectId, Placer, Planner};
 use std::alloc::{AllocError, Global};

@@ -1,3 +1,13 @@
+mod DigitLemmas
+mod EntryLemmas
+mod AnswerLemmas
+mod PartLemmas
+mod ListLemmas
+pub mod SkipLemmas
+mod RunLemmas
+mod AnnotateLemmas
+mod AnnotatorLemmas
+mod AnnotatedLemmas
 pub mod CorrectionLemmas
 pub mod StepLemmas
 mod RequestLemmas

@@ -3,8 +3,8 @@ use Rattle.std.proofs.Common.{◌≢◌, ◌||◌, ℕ, Bool, false, List, [], �
 use Rattle.std.specs.List.{list_any}
 use Rattle.cc_io.specs.Answers.{Answer, AnswersAll, EndsWith, Output, answers_text, entries_of, rest_of}
 use Rattle.cc_io.specs.Frames.{lines}
-use Rattle.cc_formats.specs.declared.reading.Progress.TheVariants.{Running, OutOfMemory}
-use Rattle.cc_formats.specs.declared.reading.Reading.{Reading}
+use Rattle.cc_replay.specs.declared.reading.Progress.TheVariants.{Running, OutOfMemory}
+use Rattle.cc_replay.specs.declared.reading.Reading.{Reading}
 use Rattle.cc_heap.specs.declared.settings.Settings.{Settings}
 use Rattle.cc_replay.specs.Replay.{figures_of, replaying}
 use Rattle.cc_replay.specs.Taking.{next_entry}

@@ -16,10 +16,10 @@ use Rattle.cc_heap.specs.Memory.{usage_of}
 use Rattle.cc_heap.specs.Peaks.{without_peaks}
 use Rattle.cc_heap.specs.Totals.{capped_sum}
 use Rattle.cc_laws.proofs.PeakLemmas.{has_peaks}
-use Rattle.cc_formats.specs.declared.formats.Entry.{Entry}
-use Rattle.cc_formats.specs.declared.reading.Progress.{Progress}
-use Rattle.cc_formats.specs.declared.reading.Progress.TheVariants.{Running, Stopped, OutOfMemory}
-use Rattle.cc_formats.specs.declared.reading.Reading.{Reading}
+use Rattle.cc_replay.specs.declared.formats.Entry.{Entry}
+use Rattle.cc_replay.specs.declared.reading.Progress.{Progress}
+use Rattle.cc_replay.specs.declared.reading.Progress.TheVariants.{Running, Stopped, OutOfMemory}
+use Rattle.cc_replay.specs.declared.reading.Reading.{Reading}
 use Rattle.cc_replay.specs.Replay.{ReplayState, TakesLine, at_entry, event_before, events_in, figures_of, replaying}
 use Rattle.cc_replay.specs.Taking.{TakesEntry, TakesLineIn, TakesRestIn, next_entry}
 use Rattle.cc_laws.specs.ChartedRun.{HasLevels, RunsWithLevels, ShowsRun}

@@ -17,9 +17,9 @@ use Rattle.cc_machine.specs.Objects.{held_bytes_of, held_spans}
 use Rattle.cc_machine.specs.Run.{Run}
 use Rattle.cc_placer.specs.Placement.{HaveSameSpans}
 use Rattle.cc_placer.specs.declared.event.Event.{Event}
-use Rattle.cc_formats.specs.declared.reading.Progress.{Progress}
-use Rattle.cc_formats.specs.declared.reading.Progress.TheVariants.{Running, OutOfMemory}
-use Rattle.cc_formats.specs.declared.reading.Reading.{Reading}
+use Rattle.cc_replay.specs.declared.reading.Progress.{Progress}
+use Rattle.cc_replay.specs.declared.reading.Progress.TheVariants.{Running, OutOfMemory}
+use Rattle.cc_replay.specs.declared.reading.Reading.{Reading}
 use Rattle.cc_heap.specs.declared.settings.Settings.{Settings}
 use Rattle.cc_heap.specs.declared.usage.Usage.{Usage}
 use Rattle.cc_heap.specs.Heap.{Heap, empty_heap}

@@ -8,11 +8,11 @@ use Rattle.cc_bounds.specs.declared.span.Span.{Span}
 use Rattle.cc_io.specs.Answers.{Answer, AnswersAll, EndsWith, Output, answers_text, entries_of, rest_of}
 use Rattle.cc_io.specs.Frames.{lines}
 use Rattle.cc_placer.specs.declared.event.Event.{Event}
-use Rattle.cc_formats.specs.declared.reading.Progress.{Progress}
-use Rattle.cc_formats.specs.declared.reading.Progress.TheVariants.{Running, Stopped, OutOfMemory}
-use Rattle.cc_formats.specs.declared.reading.Reading.{Reading}
-use Rattle.cc_formats.specs.Formats.{has_pointers}
-use Rattle.cc_formats.specs.Reading.{is_due, progress_after, reason_of}
+use Rattle.cc_replay.specs.declared.reading.Progress.{Progress}
+use Rattle.cc_replay.specs.declared.reading.Progress.TheVariants.{Running, Stopped, OutOfMemory}
+use Rattle.cc_replay.specs.declared.reading.Reading.{Reading}
+use Rattle.cc_replay.specs.Formats.{has_pointers}
+use Rattle.cc_replay.specs.Reading.{is_due, progress_after, reason_of}
 use Rattle.cc_heap.specs.declared.outcome.Outcome.{Outcome}
 use Rattle.cc_heap.specs.declared.settings.Settings.{Settings}
 use Rattle.cc_heap.specs.declared.totals.Totals.{Totals}

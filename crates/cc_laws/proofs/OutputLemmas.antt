@@ -15,8 +15,8 @@ use Rattle.cc_machine.proofs.TreeLemmas.{Keeps-reached}
 use Rattle.cc_laws.proofs.StepTotalLemmas.{Run-outcome}
 use Rattle.cc_heap.specs.declared.settings.Settings.{Settings}
 use Rattle.cc_heap.specs.Heap.{empty_heap}
-use Rattle.cc_formats.specs.declared.reading.Progress.TheVariants.{OutOfMemory}
-use Rattle.cc_formats.specs.declared.reading.Reading.{Reading}
+use Rattle.cc_replay.specs.declared.reading.Progress.TheVariants.{OutOfMemory}
+use Rattle.cc_replay.specs.declared.reading.Reading.{Reading}
 use Rattle.cc_replay.specs.Replay.{events_in}
 use Rattle.cc_replay.specs.Changes.{objects_made}
 use Rattle.cc_replay.specs.Operations.{no_numbers, operations_of}

@@ -15,8 +15,8 @@ use Rattle.cc_values.proofs.ReadBackLemmas.{decimal-read}
 use Rattle.cc_placer.specs.declared.event.Event.{Event}
 use Rattle.cc_placer.specs.declared.event.Event.TheVariants as event
 use Rattle.cc_placer.specs.Alignment.{HasAlignment}
-use Rattle.cc_formats.specs.Trace.{HasNumbersInRange, entry_of, event_in, event_text}
-use Rattle.cc_formats.proofs.PowerLemmas.{power_is_one}
+use Rattle.cc_replay.specs.Trace.{HasNumbersInRange, entry_of, event_in, event_text}
+use Rattle.cc_replay.proofs.PowerLemmas.{power_is_one}
 
 -- digits are a word
 digits_are_word : (ds : List ℕ) → AllDigits 10 ds → IsWord ds

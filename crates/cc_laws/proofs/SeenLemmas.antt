@@ -1,10 +1,10 @@
 -- The first bytes of lines have the events of the lines.
 use Rattle.std.proofs.Common.{◌≡◌, ℕ, List, [], ◌∷◌, map, take, Option, refl, ◌∙◌, ap}
-use Rattle.cc_formats.specs.declared.formats.Entry.{Entry}
-use Rattle.cc_formats.specs.declared.formats.TraceFormat.{TraceFormat}
-use Rattle.cc_formats.specs.Formats.{entry_in}
+use Rattle.cc_replay.specs.declared.formats.Entry.{Entry}
+use Rattle.cc_replay.specs.declared.formats.TraceFormat.{TraceFormat}
+use Rattle.cc_replay.specs.Formats.{entry_in}
 use Rattle.cc_replay.specs.Replay.{event_before, events_in}
-use Rattle.cc_formats.proofs.FormatLemmas.{entry_start}
+use Rattle.cc_replay.proofs.FormatLemmas.{entry_start}
 
 pub events_seen : (format : TraceFormat) (pending : Option ℕ) (ls : List (List ℕ)) → events_in format pending (map (take 129) ls) ≡ events_in format pending ls
 events_seen format pending [] = refl

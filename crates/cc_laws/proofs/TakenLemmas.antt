@@ -5,11 +5,11 @@ use Rattle.cc_io.specs.Answers.{Answer, AnswersAll, EndsWith, Output, entries_of
 use Rattle.cc_io.specs.Frames.{lines}
 use Rattle.cc_io.specs.Lines.{lines_of}
 use Rattle.cc_placer.specs.declared.event.Event.{Event}
-use Rattle.cc_formats.specs.declared.formats.Entry.{Entry}
+use Rattle.cc_replay.specs.declared.formats.Entry.{Entry}
 use Rattle.cc_heap.specs.declared.outcome.Outcome.{Outcome}
-use Rattle.cc_formats.specs.declared.reading.Progress.{Progress}
-use Rattle.cc_formats.specs.declared.reading.Progress.TheVariants.{Running, Stopped, OutOfMemory}
-use Rattle.cc_formats.specs.declared.reading.Reading.{Reading}
+use Rattle.cc_replay.specs.declared.reading.Progress.{Progress}
+use Rattle.cc_replay.specs.declared.reading.Progress.TheVariants.{Running, Stopped, OutOfMemory}
+use Rattle.cc_replay.specs.declared.reading.Reading.{Reading}
 use Rattle.cc_heap.specs.Lost.{IsRunEvent, RunState, RunsNoting}
 use Rattle.cc_replay.specs.Replay.{ReplayState, TakesLine, TakesRest, at_entry, event_before, events_in, replaying}
 use Rattle.cc_replay.specs.Taking.{TakesEntry, TakesLineIn, TakesRestIn, next_entry}

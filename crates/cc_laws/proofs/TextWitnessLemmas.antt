@@ -7,8 +7,8 @@ use Rattle.cc_values.specs.declared.op.Op.TheVariants.{Addr}
 use Rattle.cc_machine.specs.Run.{IsInAddressSpace}
 use Rattle.cc_placer.specs.declared.event.Event.TheVariants.{Allocate, Free}
 use Rattle.cc_replay.specs.Changes.{AsksForUnit}
-use Rattle.cc_formats.specs.Trace.{HasNumbersInRange}
-use Rattle.cc_formats.specs.Mtrace.{IsCaller, allocation_line, free_line}
+use Rattle.cc_replay.specs.Trace.{HasNumbersInRange}
+use Rattle.cc_replay.specs.Mtrace.{IsCaller, allocation_line, free_line}
 use Rattle.cc_laws.proofs.TraceWitnessLemmas.{unit-one}
 
 pub caller : IsCaller (codes "a:[0x1")

@@ -13,8 +13,8 @@ use Rattle.cc_placer.specs.declared.event.Event.TheVariants.{Clock}
 use Rattle.cc_draw.specs.declared.levels.Levels.{Levels}
 use Rattle.cc_draw.specs.Chart.{IsChartOf, no_chart}
 use Rattle.cc_draw.specs.Levels.{greatest, no_levels}
-use Rattle.cc_formats.specs.declared.reading.Progress.TheVariants.{Running}
-use Rattle.cc_formats.specs.declared.reading.Reading.{Reading}
+use Rattle.cc_replay.specs.declared.reading.Progress.TheVariants.{Running}
+use Rattle.cc_replay.specs.declared.reading.Reading.{Reading}
 use Rattle.cc_heap.specs.declared.settings.Settings.{Settings}
 use Rattle.cc_heap.specs.Heap.{Heap, empty_heap, no_totals}
 use Rattle.cc_heap.specs.Lost.{empty_run}

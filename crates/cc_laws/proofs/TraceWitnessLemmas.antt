@@ -25,7 +25,7 @@ use Rattle.cc_placer.specs.Align.{padded_size_for, unit_of}
 use Rattle.cc_placer.specs.Placement.{IsPlacement}
 use Rattle.cc_placer.specs.declared.event.Event.{Event}
 use Rattle.cc_placer.specs.declared.event.Event.TheVariants as event
-use Rattle.cc_formats.specs.declared.reading.Progress.TheVariants.{Running}
+use Rattle.cc_replay.specs.declared.reading.Progress.TheVariants.{Running}
 use Rattle.cc_heap.specs.declared.making.Making.TheVariants.{Made}
 use Rattle.cc_heap.specs.declared.object.Object.{Object}
 use Rattle.cc_heap.specs.Events.{FreesInHeap, IsEvent, outcome_of}
@@ -39,7 +39,7 @@ use Rattle.cc_replay.specs.Changes.{AsksForUnit, CanBePlanned, Change, Changes, 
 use Rattle.cc_replay.specs.Deeds.{NumberedIds}
 use Rattle.cc_replay.specs.Operations.{no_numbers, operation_lines, operations_of}
 use Rattle.cc_replay.specs.Script.{ScriptState, ScriptsEvent, ScriptsLine, ScriptsRest, can_have, script_begun}
-use Rattle.cc_formats.specs.Trace.{entry_of}
+use Rattle.cc_replay.specs.Trace.{entry_of}
 use Rattle.cc_laws.specs.Translation.{IsAccepted, IsReadAs}
 use Rattle.cc_laws.specs.WorkedTrace.{worked_settings, worked_reading, worked_trace, worked_trace_script}
 use Rattle.cc_laws.proofs.StepTotalLemmas.{Run-outcome}

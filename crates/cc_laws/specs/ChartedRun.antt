@@ -10,7 +10,7 @@ use Rattle.cc_heap.specs.Memory.{usage_of}
 use Rattle.cc_heap.specs.Peaks.{without_peaks}
 use Rattle.cc_heap.specs.Run.{Moment, PassesEvent, greatest, usage_in}
 use Rattle.cc_heap.specs.Totals.{capped_sum}
-use Rattle.cc_formats.specs.declared.reading.Progress.TheVariants.{Running}
+use Rattle.cc_replay.specs.declared.reading.Progress.TheVariants.{Running}
 use Rattle.cli_replay.specs.Charting.{Charted}
 
 -- HasLevels holds if the heap `old` passes some states on its way to `new`. The levels are the largest live,

@@ -16,8 +16,8 @@ use Rattle.cc_heap.specs.declared.object.Object.{Object}
 use Rattle.cc_heap.specs.declared.settings.Settings.{Settings}
 use Rattle.cc_heap.specs.Memory.{memory_spans as heap_spans}
 use Rattle.cc_heap.specs.Heap.{Heap, empty_heap}
-use Rattle.cc_formats.specs.declared.reading.Progress.{Progress}
-use Rattle.cc_formats.specs.declared.reading.Progress.TheVariants.{Running}
+use Rattle.cc_replay.specs.declared.reading.Progress.{Progress}
+use Rattle.cc_replay.specs.declared.reading.Progress.TheVariants.{Running}
 use Rattle.cc_replay.specs.Changes.{AreChangesOf, CanBePlanned, Change, Changes, objects_made}
 use Rattle.cc_replay.specs.Operations.{no_numbers, operation_lines, operations_of}
 use Rattle.cc_replay.specs.Script.{most_objects}

@@ -2,8 +2,8 @@
 use Rattle.std.specs.Prelude.{ℕ, false, List, [], ◌∷◌, codes}
 use Rattle.cc_bounds.specs.Span.{span_from}
 use Rattle.cc_bounds.specs.declared.align.Align.TheVariants.{One}
-use Rattle.cc_formats.specs.declared.formats.TraceFormat.TheVariants.{Own}
-use Rattle.cc_formats.specs.declared.reading.Reading.{Reading}
+use Rattle.cc_replay.specs.declared.formats.TraceFormat.TheVariants.{Own}
+use Rattle.cc_replay.specs.declared.reading.Reading.{Reading}
 use Rattle.cc_heap.specs.declared.policy.Policy.TheVariants.{Trace}
 use Rattle.cc_heap.specs.declared.reallocation.Reallocation.TheVariants.{Move}
 use Rattle.cc_heap.specs.declared.settings.Settings.{Settings}

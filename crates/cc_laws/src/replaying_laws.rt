@@ -7,11 +7,11 @@ ghost use Rattle.cc_placer.specs.declared.event.Event.{Event};
 ghost use Rattle.cc_placer.specs.Alignment.{HasAlignment};
 ghost use Rattle.cc_heap.specs.Lost.{RunsNoting, empty_run};
 ghost use Rattle.cc_heap.specs.declared.settings.Settings.{Settings};
-ghost use Rattle.cc_formats.specs.declared.reading.Reading.{Reading};
+ghost use Rattle.cc_replay.specs.declared.reading.Reading.{Reading};
 ghost use Rattle.cc_replay.specs.Replay.{ReplayState, TakesLine, TakesRest, begun, events_in};
-ghost use Rattle.cc_formats.specs.Trace.{HasNumbersInRange, entry_of, event_text};
+ghost use Rattle.cc_replay.specs.Trace.{HasNumbersInRange, entry_of, event_text};
 ghost use Rattle.cc_heap.specs.Run.{Runs};
-ghost use Rattle.cc_formats.specs.declared.reading.Progress.TheVariants.{Running, OutOfMemory};
+ghost use Rattle.cc_replay.specs.declared.reading.Progress.TheVariants.{Running, OutOfMemory};
 ghost use Rattle.cc_laws.specs.OneOutcome.{AreAlikeReplays};
 
 /// Proves that a replay has the events of the trace's lines happen to its heap, in order, and nothing

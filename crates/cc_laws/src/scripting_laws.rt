@@ -5,8 +5,8 @@ ghost use Rattle.cc_io.specs.Frames.{lines};
 ghost use Rattle.cc_io.specs.Lines.{lines_of};
 ghost use Rattle.cc_heap.specs.declared.settings.Settings.{Settings};
 ghost use Rattle.cc_replay.specs.Replay.{events_in};
-ghost use Rattle.cc_formats.specs.declared.reading.Progress.TheVariants.{OutOfMemory};
-ghost use Rattle.cc_formats.specs.declared.reading.Reading.{Reading};
+ghost use Rattle.cc_replay.specs.declared.reading.Progress.TheVariants.{OutOfMemory};
+ghost use Rattle.cc_replay.specs.declared.reading.Reading.{Reading};
 ghost use Rattle.cc_replay.specs.Script.{ScriptState, ScriptsLine, ScriptsRest, script_begun};
 ghost use Rattle.cc_laws.specs.Translation.{HasScript};
 

@@ -16,7 +16,7 @@ ghost use Rattle.cc_heap.specs.Heap.{Heap, empty_heap};
 ghost use Rattle.cc_heap.specs.Lost.{empty_run};
 ghost use Rattle.cc_heap.specs.Run.{Runs};
 ghost use Rattle.cc_replay.specs.Replay.{ReplayState, TakesLine, TakesRest, begun};
-ghost use Rattle.cc_formats.specs.declared.reading.Progress.TheVariants.{Running};
+ghost use Rattle.cc_replay.specs.declared.reading.Progress.TheVariants.{Running};
 ghost use Rattle.cc_replay.specs.Changes.{AsksForUnit, CanBePlanned, Change, Changes, objects_made};
 ghost use Rattle.cc_replay.specs.Operations.{no_numbers, operations_of};
 ghost use Rattle.cc_replay.specs.Script.{ScriptState, ScriptsLine, ScriptsRest, script_begun};

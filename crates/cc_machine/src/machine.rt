@@ -8,7 +8,7 @@ use crate::owners::{is_freed, is_swept};
 use crate::slot::Slot;
 use cc_bounds::{Align, Len};
 use cc_cap::Cap;
-use cc_gaps::GapPlacer;
+use crate::GapPlacer;
 use cc_plan::{ObjectId, Planner};
 use cc_values::{Op, Reply};
 use cc_word::Refusal;

@@ -1,3 +1,8 @@
+pub mod StartLemmas
+pub mod CutLemmas
+pub mod TraceLemmas
+pub mod FormatLemmas
+pub mod PowerLemmas
 pub mod RowLemmas
 pub mod PolicyLemmas
 pub mod ReplayLemmas

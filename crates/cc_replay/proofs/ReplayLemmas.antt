@@ -5,13 +5,13 @@ use Rattle.cc_replay.specs.declared.counts.Counts.{Counts}
 use Rattle.cc_placer.specs.declared.event.Event.{Event}
 use Rattle.cc_io.specs.Answers.{AnswersInto}
 use Rattle.cc_word.specs.declared.refusal.Refusal.{Refusal}
-use Rattle.cc_formats.specs.declared.formats.Entry.{Entry}
+use Rattle.cc_replay.specs.declared.formats.Entry.{Entry}
 use Rattle.cc_heap.specs.declared.outcome.Outcome.{Outcome}
-use Rattle.cc_formats.specs.declared.reading.Progress.{Progress}
-use Rattle.cc_formats.specs.declared.reading.Reading.{Reading}
+use Rattle.cc_replay.specs.declared.reading.Progress.{Progress}
+use Rattle.cc_replay.specs.declared.reading.Reading.{Reading}
 use Rattle.cc_replay.specs.Counts.{with_counted_event, with_failure, with_line, with_outcome}
 use Rattle.cc_heap.specs.Lost.{IsRunEvent, RunState}
-use Rattle.cc_formats.specs.Reading.{is_due, is_over, progress_after, reason_of}
+use Rattle.cc_replay.specs.Reading.{is_due, is_over, progress_after, reason_of}
 use Rattle.cc_heap.specs.Outcomes.{is_refused}
 use Rattle.cc_replay.specs.Replay.{ReplayState, TakesLine, TakesRest, at_entry, replaying, sample_text, time_after}
 use Rattle.cc_replay.specs.Taking.{AppendsEntry, AppendsEvent, RefusesEntry, TakesEntry, next_entry}

@@ -13,9 +13,9 @@ use Rattle.cc_heap.specs.declared.settings.Settings.{Settings}
 use Rattle.cc_heap.specs.Events.{FailsInEvent, FailsToMake, IsEvent, IsSweptOrNot}
 use Rattle.cc_heap.specs.Heap.{Heap, empty_heap}
 use Rattle.cc_io.specs.Answers.{AnswersInto}
-use Rattle.cc_formats.specs.declared.formats.Entry.{Entry}
-use Rattle.cc_formats.specs.declared.reading.Progress.TheVariants.{Stopped, OutOfMemory}
-use Rattle.cc_formats.specs.Reading.{is_over, progress_after}
+use Rattle.cc_replay.specs.declared.formats.Entry.{Entry}
+use Rattle.cc_replay.specs.declared.reading.Progress.TheVariants.{Stopped, OutOfMemory}
+use Rattle.cc_replay.specs.Reading.{is_over, progress_after}
 use Rattle.cc_heap.specs.Outcomes.{is_refused}
 use Rattle.cc_replay.specs.declared.deeds.Deeds.{Deeds}
 use Rattle.cc_replay.specs.declared.deeds.MadeEntry.{MadeEntry}

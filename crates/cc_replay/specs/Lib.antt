@@ -1,4 +1,11 @@
 -- In reading order.
+pub mod Reports
+pub mod Mtrace
+pub mod Heaptrack
+pub mod Ltrace
+pub mod Trace
+pub mod Formats
+pub mod Reading
 pub mod PolicyText
 pub mod Counts
 pub mod Rows

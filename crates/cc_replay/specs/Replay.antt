@@ -5,21 +5,21 @@ use Rattle.cc_replay.specs.declared.counts.Count.{Count}
 use Rattle.cc_replay.specs.declared.counts.Counts.{Counts}
 use Rattle.cc_placer.specs.declared.event.Event.{Event}
 use Rattle.cc_placer.specs.declared.event.Event.TheVariants.{Clock}
-use Rattle.cc_formats.specs.declared.formats.Entry.{Entry}
-use Rattle.cc_formats.specs.declared.formats.TraceFormat.{TraceFormat}
+use Rattle.cc_replay.specs.declared.formats.Entry.{Entry}
+use Rattle.cc_replay.specs.declared.formats.TraceFormat.{TraceFormat}
 use Rattle.cc_heap.specs.declared.outcome.Outcome.{Outcome}
-use Rattle.cc_formats.specs.declared.reading.Progress.{Progress}
-use Rattle.cc_formats.specs.declared.reading.Progress.TheVariants.{Running, OutOfMemory}
-use Rattle.cc_formats.specs.declared.reading.Reading.{Reading}
-use Rattle.cc_formats.specs.declared.reading.SampleReason.{SampleReason}
-use Rattle.cc_formats.specs.declared.reading.SampleReason.TheVariants.{Last}
+use Rattle.cc_replay.specs.declared.reading.Progress.{Progress}
+use Rattle.cc_replay.specs.declared.reading.Progress.TheVariants.{Running, OutOfMemory}
+use Rattle.cc_replay.specs.declared.reading.Reading.{Reading}
+use Rattle.cc_replay.specs.declared.reading.SampleReason.{SampleReason}
+use Rattle.cc_replay.specs.declared.reading.SampleReason.TheVariants.{Last}
 use Rattle.cc_replay.specs.declared.summary.Figures.{Figures}
 use Rattle.cc_heap.specs.Outcomes.{is_refused}
 use Rattle.cc_replay.specs.Counts.{with_counted_event, with_failure, with_line, with_outcome, with_refusal}
-use Rattle.cc_formats.specs.Formats.{entry_in, has_pointers}
+use Rattle.cc_replay.specs.Formats.{entry_in, has_pointers}
 use Rattle.cc_heap.specs.Lost.{IsRunEvent, RunState}
 use Rattle.cc_heap.specs.Memory.{IsSoundMemory, usage_of}
-use Rattle.cc_formats.specs.Reading.{is_due, progress_after, reason_of}
+use Rattle.cc_replay.specs.Reading.{is_due, progress_after, reason_of}
 use Rattle.cc_replay.specs.Rows.{names_line, values_line}
 use Rattle.cc_replay.specs.Summary.{sample_rows}
 use Rattle.cc_replay.specs.Taking.{Taker, TakesLineIn, TakesRestIn}

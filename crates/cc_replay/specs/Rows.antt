@@ -1,8 +1,8 @@
 -- The rows of a summary or of a series: names and values, and their text in each format.
 use Rattle.std.specs.Prelude.{ℕ, zero, suc, ◌*◌, ◌/◌, ◌%◌, ◌^◌, ◌==◌, List, [], ◌∷◌, ◌++◌, codes, decimal, map, min, if◌then◌else◌}
 use Rattle.cc_io.specs.Text.{with_line_feed}
-use Rattle.cc_formats.specs.declared.reading.SampleReason.{SampleReason}
-use Rattle.cc_formats.specs.declared.reading.SampleReason.TheVariants.{Regular, Swept, Last}
+use Rattle.cc_replay.specs.declared.reading.SampleReason.{SampleReason}
+use Rattle.cc_replay.specs.declared.reading.SampleReason.TheVariants.{Regular, Swept, Last}
 use Rattle.cc_replay.specs.declared.table.Part.{Part}
 use Rattle.cc_replay.specs.declared.table.Part.TheVariants.{Line, Name, Quantity, Member, Heading, Cell}
 use Rattle.cc_replay.specs.declared.table.Row.{Row as RowValue}

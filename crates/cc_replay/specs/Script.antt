@@ -6,10 +6,10 @@ use Rattle.cc_heap.specs.declared.outcome.Outcome.{Outcome}
 use Rattle.cc_heap.specs.declared.settings.Settings.{Settings}
 use Rattle.cc_heap.specs.Events.{IsEvent}
 use Rattle.cc_heap.specs.Heap.{Heap, empty_heap}
-use Rattle.cc_formats.specs.declared.reading.Progress.{Progress}
-use Rattle.cc_formats.specs.declared.reading.Progress.TheVariants.{Running, Stopped, OutOfMemory}
-use Rattle.cc_formats.specs.declared.reading.Reading.{Reading}
-use Rattle.cc_formats.specs.Reading.{progress_after}
+use Rattle.cc_replay.specs.declared.reading.Progress.{Progress}
+use Rattle.cc_replay.specs.declared.reading.Progress.TheVariants.{Running, Stopped, OutOfMemory}
+use Rattle.cc_replay.specs.declared.reading.Reading.{Reading}
+use Rattle.cc_replay.specs.Reading.{progress_after}
 use Rattle.cc_heap.specs.Outcomes.{is_refused}
 use Rattle.cc_replay.specs.Changes.{CanBePlanned, Change, Changes, asks_for_unit, objects_made}
 use Rattle.cc_replay.specs.Operations.{numbers_after, operation_lines, operations_of}

@@ -1,7 +1,7 @@
 -- The tables of a replay: the summary, and the rows of a series.
 use Rattle.std.specs.Prelude.{ℕ, Bool, ◌+◌, ◌-◌, List, [], ◌∷◌, ◌++◌, codes, if◌then◌else◌}
 use Rattle.cc_replay.specs.declared.counts.Counts.{Counts}
-use Rattle.cc_formats.specs.declared.reading.SampleReason.{SampleReason}
+use Rattle.cc_replay.specs.declared.reading.SampleReason.{SampleReason}
 use Rattle.cc_replay.specs.declared.table.Value.TheVariants.{Number, Percent, Reason}
 use Rattle.cc_replay.specs.declared.summary.Figures.{Figures}
 use Rattle.cc_heap.specs.declared.totals.Totals.{Totals}

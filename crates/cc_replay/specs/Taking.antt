@@ -3,12 +3,12 @@ use Rattle.std.specs.Prelude.{◌≡◌, ℕ, Bool, true, false, List, [], ◌++
 use Rattle.cc_word.specs.declared.refusal.Refusal.{Refusal}
 use Rattle.cc_word.specs.declared.refusal.Refusal.TheVariants.{Unfinished}
 use Rattle.cc_placer.specs.declared.event.Event.{Event}
-use Rattle.cc_formats.specs.declared.formats.Entry.{Entry}
+use Rattle.cc_replay.specs.declared.formats.Entry.{Entry}
 use Rattle.cc_io.specs.Answers.{Relation}
-use Rattle.cc_formats.specs.declared.formats.TraceFormat.{TraceFormat}
-use Rattle.cc_formats.specs.declared.reading.Progress.{Progress}
-use Rattle.cc_formats.specs.declared.reading.Progress.TheVariants.{Running}
-use Rattle.cc_formats.specs.Formats.{entry_in}
+use Rattle.cc_replay.specs.declared.formats.TraceFormat.{TraceFormat}
+use Rattle.cc_replay.specs.declared.reading.Progress.{Progress}
+use Rattle.cc_replay.specs.declared.reading.Progress.TheVariants.{Running}
+use Rattle.cc_replay.specs.Formats.{entry_in}
 
 -- A taker of events: the format of its trace, the pointer of a pending first half of a reallocation, whether
 -- it takes further lines, its state once it has noted a line of an entry, once it has noted trailing bytes, and

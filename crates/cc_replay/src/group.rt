@@ -21,7 +21,7 @@ use crate::rows::{between_rows, end_of, push_heading, push_row};
 use crate::summary::{MOST_ROWS, policy_rows};
 use crate::table::{Format, Row};
 use arrayvec::ArrayVec;
-use cc_formats::{Progress, Reading};
+use crate::{Progress, Reading};
 use cc_heap::{Policy, Settings};
 use cc_io::{Answerer, IoError, Page, Sink, write_and_flush};
 use cc_placer::Placer;

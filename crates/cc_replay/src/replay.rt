@@ -5,7 +5,7 @@ ghost use Rattle.cc_io.specs.Answers.{AnswersInto};
 ghost use Rattle.cc_io.specs.Correct.{Pumps};
 ghost use Rattle.cc_io.specs.Frames.{lines};
 ghost use Rattle.cc_io.specs.Devices.{IsOutcome, SendsBytes};
-ghost use Rattle.cc_formats.specs.Reading.{is_over};
+ghost use Rattle.cc_replay.specs.Reading.{is_over};
 ghost use Rattle.cc_placer.specs.Alignment.{HasAlignment};
 ghost use Rattle.cc_heap.specs.Lost.{empty_run};
 ghost use Rattle.cc_heap.specs.Peaks.{without_peaks};
@@ -16,7 +16,7 @@ ghost use Rattle.cc_replay.specs.Taking.{AppendsEntry, AppendsEvent, RefusesEntr
 use crate::counts::{Count, Counts};
 use crate::series::{MOST_SAMPLE, push_sample, push_series_header};
 use crate::summary::Figures;
-use cc_formats::{Entry, Progress, Reading, SampleReason, read_entry};
+use crate::{Entry, Progress, Reading, SampleReason, read_entry};
 use cc_heap::{Event, Heap, Run, Settings, SizeTotals};
 use cc_io::{
     Answerer, IoError, Lines, Page, Pending, Sink, Source, Summary, pump, write_and_flush,

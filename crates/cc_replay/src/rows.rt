@@ -7,7 +7,7 @@ ghost use Rattle.cc_replay.specs.Rows.{separator_of, table_end, table_heading, t
 
 use crate::policy_text::push_policy;
 use crate::table::{Format, Part, Row, Value};
-use cc_formats::SampleReason;
+use crate::SampleReason;
 use cc_io::{Line, Page};
 
 /// The maximum part of a percentage.

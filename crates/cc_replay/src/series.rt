@@ -1,15 +1,14 @@
 //! The samples of a series.
 ghost use Rattle.std.specs.Prelude.{◌≡◌, ◌≤◌, ◌+◌, ◌*◌, ◌^◌, ◌++◌, length};
-ghost use Rattle.cc_formats.specs.declared.reading.SampleReason.TheVariants.{Last};
+ghost use Rattle.cc_replay.specs.declared.reading.SampleReason.TheVariants.{Last};
 ghost use Rattle.cc_replay.specs.Replay.{most_sample};
 ghost use Rattle.cc_replay.specs.Rows.{names_line, table_rows, values_line};
 ghost use Rattle.cc_replay.specs.Summary.{sample_rows};
 
-use crate::row;
+use crate::{SampleReason, row};
 use crate::rows::{push_names, push_values};
 use crate::summary::Figures;
 use crate::table::{Row, Value};
-use cc_formats::SampleReason;
 use cc_io::Page;
 
 /// The maximum number of bytes of a line of a series.

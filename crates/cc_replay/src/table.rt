@@ -1,7 +1,7 @@
 //! The rows of tables: names and values.
 ghost use Rattle.std.specs.Prelude.{◌≤◌, length};
 
-use cc_formats::SampleReason;
+use crate::SampleReason;
 use cc_heap::Policy;
 
 /// The format of a table.

@@ -9,7 +9,7 @@ use Rattle.cc_bounds.specs.declared.span.Span.{Span}
 use Rattle.cc_syntax.specs.Request.{request_in}
 use Rattle.cc_values.specs.Values.{address_in, both}
 use Rattle.cc_heap.specs.declared.policy.Policy.{Policy}
-use Rattle.cc_formats.specs.declared.formats.TraceFormat.{TraceFormat}
+use Rattle.cc_replay.specs.declared.formats.TraceFormat.{TraceFormat}
 use Rattle.cc_bounds.specs.Span.{IsSpan}
 use Rattle.cc_heap.specs.declared.reallocation.Reallocation.{Reallocation}
 use Rattle.cc_heap.specs.declared.reallocation.Reallocation.TheVariants.{Move}

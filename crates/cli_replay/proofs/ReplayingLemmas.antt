@@ -9,7 +9,7 @@ use Rattle.cc_bounds.specs.declared.align.Align.{Align}
 use Rattle.cc_io.specs.CommandOutput.{WritesRefusal}
 use Rattle.cc_io.specs.Devices.{InputState}
 use Rattle.cc_io.specs.declared.summary.Summary.{Summary}
-use Rattle.cc_formats.specs.declared.reading.Reading.{Reading}
+use Rattle.cc_replay.specs.declared.reading.Reading.{Reading}
 use Rattle.cc_heap.specs.Lost.{empty_run}
 use Rattle.cc_heap.specs.declared.policy.Policy.{Policy}
 use Rattle.cc_heap.specs.declared.settings.Settings.{Settings}

@@ -20,10 +20,10 @@ use Rattle.cc_word.specs.declared.refusal.Refusal.{Refusal}
 use Rattle.cc_replay.specs.PolicyText.{policy_text}
 use Rattle.cc_replay.specs.Replay.{ReplayState, TakesLine, TakesRest, begun, figures_of, most_sample, replaying}
 use Rattle.cc_replay.specs.Taking.{next_entry}
-use Rattle.cc_formats.specs.declared.reading.Progress.{Progress}
-use Rattle.cc_formats.specs.declared.reading.Progress.TheVariants.{Running, OutOfMemory}
-use Rattle.cc_formats.specs.declared.reading.Reading.{Reading}
-use Rattle.cc_formats.specs.Reading.{is_over}
+use Rattle.cc_replay.specs.declared.reading.Progress.{Progress}
+use Rattle.cc_replay.specs.declared.reading.Progress.TheVariants.{Running, OutOfMemory}
+use Rattle.cc_replay.specs.declared.reading.Reading.{Reading}
+use Rattle.cc_replay.specs.Reading.{is_over}
 use Rattle.cc_replay.specs.declared.summary.Figures.{Figures}
 use Rattle.cli.specs.Devices.{Traffic}
 

@@ -11,12 +11,12 @@ use Rattle.cc_bounds.specs.declared.span.Span.{Span}
 use Rattle.cc_values.specs.Values.{address_in, both}
 use Rattle.cc_syntax.specs.Request.{request_in}
 use Rattle.cc_replay.specs.PolicyText.{policy_in}
-use Rattle.cc_formats.specs.declared.formats.TraceFormat.{TraceFormat}
-use Rattle.cc_formats.specs.declared.formats.TraceFormat.TheVariants.{Own, Mtrace, Heaptrack, Ltrace}
+use Rattle.cc_replay.specs.declared.formats.TraceFormat.{TraceFormat}
+use Rattle.cc_replay.specs.declared.formats.TraceFormat.TheVariants.{Own, Mtrace, Heaptrack, Ltrace}
 use Rattle.cc_heap.specs.declared.policy.Policy.{Policy}
 use Rattle.cc_heap.specs.declared.policy.Policy.TheVariants.{Percent}
 use Rattle.cc_heap.specs.declared.policy.Share.TheVariants.{Held}
-use Rattle.cc_formats.specs.declared.reading.Reading.{Reading}
+use Rattle.cc_replay.specs.declared.reading.Reading.{Reading}
 use Rattle.cc_heap.specs.declared.reallocation.Reallocation.{Reallocation}
 use Rattle.cc_heap.specs.declared.reallocation.Reallocation.TheVariants.{Move, Keep}
 use Rattle.cc_heap.specs.declared.settings.Settings.{Settings}

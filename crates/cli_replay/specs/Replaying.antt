@@ -12,8 +12,8 @@ use Rattle.cc_replay.specs.Rows.{table_text}
 use Rattle.cc_replay.specs.Script.{ScriptState, ScriptsLine, ScriptsRest, script_begun}
 use Rattle.cc_replay.specs.SizeTable.{sizes_text}
 use Rattle.cc_replay.specs.Summary.{summary_rows}
-use Rattle.cc_formats.specs.declared.reading.Reading.{Reading}
-use Rattle.cc_formats.specs.Reading.{is_over}
+use Rattle.cc_replay.specs.declared.reading.Reading.{Reading}
+use Rattle.cc_replay.specs.Reading.{is_over}
 use Rattle.cc_heap.specs.declared.policy.Policy.{Policy}
 use Rattle.cc_heap.specs.declared.settings.Settings.{Settings}
 use Rattle.cc_replay.specs.declared.table.Format.{Format}

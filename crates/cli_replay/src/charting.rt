@@ -1,7 +1,7 @@
 //! A replay whose heap is drawn as a chart.
 ghost use Rattle.std.specs.Prelude.{◌≡◌, ◌≤◌, length};
-ghost use Rattle.cc_formats.specs.Reading.{is_over};
-ghost use Rattle.cc_formats.specs.declared.reading.Progress.TheVariants.{Running};
+ghost use Rattle.cc_replay.specs.Reading.{is_over};
+ghost use Rattle.cc_replay.specs.declared.reading.Progress.TheVariants.{Running};
 ghost use Rattle.cc_replay.specs.Group.{ran_out};
 ghost use Rattle.cc_replay.specs.Replay.{most_sample};
 ghost use Rattle.cli_replay.specs.Charting.{

@@ -14,7 +14,7 @@ use crate::memory::TraceMemory;
 use crate::replay_texts::replay_of;
 use crate::takers::{TracePrinter, TraceTaker};
 use cc_bounds::Align;
-use cc_gaps::GapPlacer;
+use cc_machine::GapPlacer;
 use cc_io::{Sink, Source, Summary, write_refusal};
 use cc_replay::{Policy, Reading, Replay, ReplayGroup, Script, Settings};
 use cli::{Content, Discard, Fault, Inputs, ReplayOutput, ReplayTexts, file_input};

@@ -3,8 +3,8 @@ ghost use Rattle.std.specs.Prelude.{◌≡◌, ◌≤◌, ℕ, Bool, List, Optio
 ghost use Rattle.cc_io.specs.Devices.{IsOutcome, SendsBytes};
 ghost use Rattle.cc_io.specs.declared.summary.IoError.{IoError as IoErrorSpec};
 ghost use Rattle.cc_io.specs.declared.summary.Summary.{Summary as SummarySpec};
-ghost use Rattle.cc_formats.specs.Reading.{is_over};
-ghost use Rattle.cc_formats.specs.declared.reading.Reading.{Reading as ReadingSpec};
+ghost use Rattle.cc_replay.specs.Reading.{is_over};
+ghost use Rattle.cc_replay.specs.declared.reading.Reading.{Reading as ReadingSpec};
 ghost use Rattle.cc_heap.specs.declared.policy.Policy.{Policy as PolicySpec};
 ghost use Rattle.cc_heap.specs.declared.settings.Settings.{Settings as SettingsSpec};
 ghost use Rattle.cc_heap.specs.Lost.{empty_run};

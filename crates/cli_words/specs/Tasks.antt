@@ -11,10 +11,10 @@ use Rattle.cc_io.specs.declared.summary.Summary.{Summary}
 use Rattle.cc_io.specs.CommandOutput.{WritesAnswer}
 use Rattle.cli_words.specs.BareDigits.{is_bare}
 use Rattle.cli_words.specs.RoundList.{RoundsList}
-use Rattle.cc_decode.specs.declared.options.Options.{Options}
-use Rattle.cc_decode.specs.declared.options.Part.{Part}
-use Rattle.cc_decode.specs.Annotate.{AnnotatesGiven}
-use Rattle.cc_decode.specs.Correct.{Lists}
+use Rattle.cc_explain.specs.declared.options.Options.{Options}
+use Rattle.cc_explain.specs.declared.options.Part.{Part}
+use Rattle.cc_explain.specs.Annotate.{AnnotatesGiven}
+use Rattle.cc_explain.specs.Correct.{Lists}
 use Rattle.cli.specs.declared.question.Base.{Base}
 use Rattle.cli.specs.declared.question.Question.{Question}
 use Rattle.cli.specs.Devices.{Console, FromInput, Traffic}

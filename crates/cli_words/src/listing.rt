@@ -3,7 +3,7 @@ ghost use Rattle.std.specs.Prelude.{◌≡◌, option_map, unwrap_or};
 ghost use Rattle.cli_words.specs.Listing.{options_of, part_of, search_of, tags_after};
 
 use bitflags::Flags;
-use cc_decode::{Format, InputForm, Options, Part, Search, Tags};
+use cc_explain::{Format, InputForm, Options, Part, Search, Tags};
 use cc_word::Perms;
 use cli::DecodeValues;
 

@@ -11,8 +11,7 @@ use crate::explaining_bounds::explain_length;
 use crate::number_hint::hint_numbers;
 use crate::rounding::show_round;
 use crate::word_hint::hint_word;
-use cc_decode::{Format, show_row};
-use cc_explain::{draw_window, explain_word, show_word};
+use cc_explain::{Format, draw_window, explain_word, show_row, show_word};
 use cc_io::{IoError, Sink, Summary};
 use cli::{Base, Fault, Question};
 

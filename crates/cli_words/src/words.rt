@@ -10,7 +10,7 @@ use crate::length_list::round_list;
 use crate::listing::{options_of, part_of};
 use crate::number_hint::hint_list;
 use crate::questions::address_of;
-use cc_decode::{Format, InputForm, Options, Part, annotate, decode_words};
+use cc_explain::{Format, InputForm, Options, Part, annotate, decode_words};
 use cc_io::{Sink, Summary};
 use cli::{Base, Content, DecodeValues, Fault, InputName, Inputs, Memory, file_input};
 

@@ -1,11 +1,11 @@
 use Rattle.std.proofs.Common.{◌≡◌, ℕ, Bool, List, [], ◌++◌, false, refl, sym, ◌∙◌, ap, append-nil, inr, subst}
-use Rattle.cc_formats.specs.declared.reading.Progress.TheVariants.{OutOfMemory}
+use Rattle.cc_replay.specs.declared.reading.Progress.TheVariants.{OutOfMemory}
 use Rattle.cc_replay.specs.declared.summary.Figures.{Figures}
 use Rattle.cc_heap.specs.Heap.{Heap}
 use Rattle.cc_heap.specs.declared.totals.Totals.{Totals}
 use Rattle.cc_replay.specs.Counts.{with_outcome}
-use Rattle.cc_formats.specs.declared.reading.SampleReason.{SampleReason}
-use Rattle.cc_formats.specs.Reading.{is_due, reason_of}
+use Rattle.cc_replay.specs.declared.reading.SampleReason.{SampleReason}
+use Rattle.cc_replay.specs.Reading.{is_due, reason_of}
 use Rattle.cc_replay.specs.Replay.{ReplayState, replaying, sample_text}
 use Rattle.cc_replay.specs.Taking.{AppendsEvent}
 use Rattle.cc_replay.specs.Rows.{values_line}

@@ -1,5 +1,5 @@
 use Rattle.std.proofs.Common.{rules, ◌≡◌, ap, false}
-use Rattle.cc_formats.specs.declared.reading.Progress.TheVariants.{Stopped}
+use Rattle.cc_replay.specs.declared.reading.Progress.TheVariants.{Stopped}
 use Rattle.cc_replay.specs.Script.{ScriptState, can_have}
 use Rattle.cc_replay.proofs.ScriptLemmas.{event_ends}
 use Rattle.cc_replay.proofs.script.Script.take_event.Goals as goal

@@ -3,9 +3,9 @@ use Rattle.cc_heap.specs.Events.{IsEvent}
 use Rattle.cc_heap.specs.Heap.{Heap}
 use Rattle.cc_heap.specs.declared.policy.Policy.{Policy}
 use Rattle.cc_heap.specs.declared.settings.Settings.{Settings}
-use Rattle.cc_formats.specs.Reading.{progress_after}
+use Rattle.cc_replay.specs.Reading.{progress_after}
 use Rattle.cc_heap.specs.Outcomes.{is_refused}
-use Rattle.cc_formats.specs.declared.reading.Reading.{Reading}
+use Rattle.cc_replay.specs.declared.reading.Reading.{Reading}
 use Rattle.cc_replay.specs.Deeds.{DoesDeeds, NumberedIds, deed_operations, numbers_of, numbers_with}
 use Rattle.cc_replay.specs.Operations.{operation_lines}
 use Rattle.cc_replay.specs.Script.{ScriptState, most_objects}

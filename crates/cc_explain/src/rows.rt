@@ -1,0 +1,391 @@
+//! The reply to one word, on one line.
+ghost use Rattle.std.specs.Prelude.{
+  ◌≡◌,
+  ◌≤◌,
+  ◌<◌,
+  ◌+◌,
+  ◌^◌,
+  ◌∷◌,
+  ◌++◌,
+  [],
+  codes,
+  decimal,
+  length,
+  true,
+  if◌then◌else◌,
+};
+ghost use Rattle.cc_word.specs.Word.{bit_of};
+ghost use Rattle.cc_word.specs.WordText.{digits_of, hexadecimal};
+ghost use Rattle.cc_cap.specs.LineText.{letter_of, letters_of, word_line_of, marks_of};
+ghost use Rattle.cc_word.specs.Permissions.{bits_of};
+ghost use Rattle.cc_io.specs.Permissions.{permissions_array, permissions_text};
+ghost use Rattle.cc_explain.specs.Decoder.{AppendsLine, AppendsRow};
+ghost use Rattle.cc_explain.specs.Row.{columns_text, csv_text, fixed_text, json_bounds, json_rights, json_text, padded};
+ghost use Rattle.cc_explain.specs.Row.{values_text};
+
+use crate::places::push_place;
+use crate::writers::{
+    Batch, push_byte, push_byte_if, push_decimal, push_digits, push_hexadecimal, push_padded,
+};
+use bitflags::Flags;
+use cc_bounds::Span;
+use cc_cap::Decoded;
+use cc_io::{Format, Line, push_permissions, push_permissions_array};
+use cc_word::{Fields, Perms, SENTRY_TYPE, UNSEALED_TYPE};
+
+/// Appends the line of a word in this format, with its address, if there is one: at most 474 bytes.
+#[inline(always)]
+pub(crate) fn push_row_line(batch: &mut Batch, format: Format, at: Option<u64>, word: u128)
+    requires { length batch.old + 474 ≤ 32768 }
+    ensures line { AppendsLine format at word batch.old batch.new }
+    ensures fits { length batch.new ≤ length batch.old + 474 }
+{
+    push_place(batch, format, at);
+    push_row(batch, format, word);
+    push_byte(batch, b'\n');
+}
+
+/// Appends the reply to a word in this format, without a line feed: at most 430 bytes.
+pub(crate) fn push_row(batch: &mut Batch, format: Format, word: u128)
+    requires { length batch.old + 430 ≤ 32768 }
+    ensures row { AppendsRow format word batch.old batch.new }
+    ensures fits { length batch.new ≤ length batch.old + 430 }
+{
+    match format {
+        Format::Columns => push_columns(batch, word),
+        Format::Text => push_line(batch, word),
+        Format::Fixed => push_fixed(batch, word),
+        Format::Csv => push_csv(batch, word),
+        Format::Json => push_json(batch, word),
+    }
+}
+
+/// Appends the columns of a word.
+fn push_columns(batch: &mut Batch, word: u128)
+    requires { length batch.old + 430 ≤ 32768 }
+    ensures row { AppendsRow Format.Columns word batch.old batch.new }
+    ensures fits { length batch.new ≤ length batch.old + 430 }
+{
+    let decoded = Decoded::of_word(word);
+    let canonical = decoded.is_canonical();
+    push_values(batch, b' ', word, &decoded, canonical);
+}
+
+/// Appends the line that a tagged word has.
+fn push_line(batch: &mut Batch, word: u128)
+    requires { length batch.old + 430 ≤ 32768 }
+    ensures row { AppendsRow Format.Text word batch.old batch.new }
+    ensures fits { length batch.new ≤ length batch.old + 430 }
+{
+    let decoded = Decoded::of_word(word);
+    push_line_of(batch, &decoded.fields, &decoded.bounds);
+}
+
+/// Appends the line of a tagged word with these fields and bounds.
+fn push_line_of(batch: &mut Batch, fields: &Fields, bounds: &Span)
+    requires { length batch.old + 430 ≤ 32768 }
+    ensures value { batch.new ≡ batch.old ++ word_line_of fields.now bounds.now true }
+    ensures fits { length batch.new ≤ length batch.old + 430 }
+{
+    push_address_and_letters(batch, fields);
+    push_bounds_and_mark(batch, fields, bounds);
+}
+
+/// Appends the address, a bracket, and the letters of the permissions.
+fn push_address_and_letters(batch: &mut Batch, fields: &Fields)
+    requires { length batch.old + 41 ≤ 32768 }
+    ensures value { batch.new ≡ batch.old ++ hexadecimal fields.now.address ++ codes " ["
+        ++ letters_of fields.now.perms }
+    ensures fits { length batch.new ≤ length batch.old + 41 }
+{
+    push_hexadecimal(batch, u128::from(fields.address));
+    batch.push(b" [");
+    push_letters(batch, Perms::from_bits_retain(fields.perms));
+}
+
+/// Appends the letters of those five permissions that have one, as far as the set has them.
+fn push_letters(batch: &mut Batch, perms: Perms)
+    requires { length batch.old + 5 ≤ 32768 }
+    ensures value { batch.new ≡ batch.old ++ letters_of (bits_of perms) }
+    ensures fits { length batch.new ≤ length batch.old + 5 }
+{
+    push_letter(batch, b'r', perms, Perms::LOAD);
+    push_letter(batch, b'w', perms, Perms::STORE);
+    push_letter(batch, b'x', perms, Perms::EXECUTE);
+    push_letter(batch, b'R', perms, Perms::LOAD_CAP);
+    push_letter(batch, b'W', perms, Perms::STORE_CAP);
+}
+
+/// Appends the letter of a permission, if the set has the permission.
+#[inline(always)]
+fn push_letter(batch: &mut Batch, letter: u8, perms: Perms, permission: Perms)
+    requires { length batch.old + 1 ≤ 32768 }
+    ensures value { batch.new ≡ batch.old ++ letter_of (letter ∷ []) (bits_of perms) (bits_of permission) }
+    ensures fits { length batch.new ≤ length batch.old + 1 }
+{
+    push_byte_if(batch, letter, perms.contains(permission));
+}
+
+/// Appends a comma, the bounds, the closing bracket, and the mark of a tagged word's type.
+fn push_bounds_and_mark(batch: &mut Batch, fields: &Fields, bounds: &Span)
+    requires { length batch.old + 90 ≤ 32768 }
+    ensures value { batch.new ≡ batch.old ++ codes "," ++ hexadecimal bounds.now.base ++ codes "-"
+        ++ hexadecimal bounds.now.top
+        ++ codes "]" ++ marks_of fields.now.otype true }
+    ensures fits { length batch.new ≤ length batch.old + 90 }
+{
+    push_byte(batch, b',');
+    push_span(batch, b'-', bounds);
+    push_byte(batch, b']');
+    push_mark(batch, fields.otype);
+}
+
+/// Appends the mark of a tagged word's type: none if it is unsealed, ` (sentry)`, or ` (sealed)`.
+fn push_mark(batch: &mut Batch, otype: u32)
+    requires { length batch.old + 10 ≤ 32768 }
+    ensures value { batch.new ≡ batch.old ++ marks_of otype true }
+    ensures fits { length batch.new ≤ length batch.old + 10 }
+{
+    match otype {
+        UNSEALED_TYPE => batch.push(b""),
+        SENTRY_TYPE => batch.push(b" (sentry)"),
+        _ => batch.push(b" (sealed)"),
+    }
+}
+
+/// Appends the columns of a word in one width each.
+fn push_fixed(batch: &mut Batch, word: u128)
+    requires { length batch.old + 430 ≤ 32768 }
+    ensures row { AppendsRow Format.Fixed word batch.old batch.new }
+    ensures fits { length batch.new ≤ length batch.old + 430 }
+{
+    let decoded = Decoded::of_word(word);
+    let canonical = decoded.is_canonical();
+    push_fixed_values(batch, word, &decoded, canonical);
+}
+
+/// Appends the columns in one width each of a decoded word.
+fn push_fixed_values(batch: &mut Batch, word: u128, decoded: &Decoded, canonical: bool)
+    requires { length batch.old + 430 ≤ 32768 }
+    ensures value { batch.new ≡ batch.old ++ fixed_text word decoded.now.fields decoded.now.bounds canonical }
+    ensures fits { length batch.new ≤ length batch.old + 92 }
+{
+    push_fixed_bounds(batch, word, &decoded.bounds);
+    push_rights(batch, b' ', &decoded.fields);
+    push_fixed_encoding(batch, decoded.exponent, canonical);
+}
+
+/// Appends the word, its base and its top in one width each.
+fn push_fixed_bounds(batch: &mut Batch, word: u128, bounds: &Span)
+    requires { length batch.old + 72 ≤ 32768 }
+    ensures value { batch.new ≡ batch.old ++ digits_of 32 word ++ codes " " ++ padded bounds.now.base ++ codes " "
+        ++ padded bounds.now.top }
+    ensures fits { length batch.new ≤ length batch.old + 72 }
+{
+    batch.push_word(word);
+    push_byte(batch, b' ');
+    push_padded(batch, u128::from(bounds.base));
+    push_byte(batch, b' ');
+    push_padded(batch, bounds.top);
+}
+
+/// Appends the exponent as two hexadecimal digits, and 1 for a canonical word or 0, with a space
+/// before each.
+fn push_fixed_encoding(batch: &mut Batch, exponent: u8, canonical: bool)
+    requires { length batch.old + 6 ≤ 32768 }
+    ensures value { batch.new ≡ batch.old ++ codes " " ++ digits_of 2 exponent ++ codes " "
+        ++ decimal (bit_of canonical) }
+    ensures fits { length batch.new ≤ length batch.old + 6 }
+{
+    push_byte(batch, b' ');
+    push_digits(batch, u64::from(exponent), 2);
+    push_byte(batch, b' ');
+    push_decimal(batch, u8::from(canonical));
+}
+
+/// Appends the comma-separated values of a word.
+fn push_csv(batch: &mut Batch, word: u128)
+    requires { length batch.old + 430 ≤ 32768 }
+    ensures row { AppendsRow Format.Csv word batch.old batch.new }
+    ensures fits { length batch.new ≤ length batch.old + 430 }
+{
+    let decoded = Decoded::of_word(word);
+    let canonical = decoded.is_canonical();
+    push_csv_values(batch, word, &decoded, canonical);
+}
+
+/// Appends the comma-separated values of a decoded word.
+fn push_csv_values(batch: &mut Batch, word: u128, decoded: &Decoded, canonical: bool)
+    requires { length batch.old + 430 ≤ 32768 }
+    ensures value { batch.new ≡ batch.old ++ csv_text word decoded.now.fields decoded.now.bounds canonical }
+    ensures fits { length batch.new ≤ length batch.old + 430 }
+{
+    push_values(batch, b',', word, decoded, canonical);
+    push_address_and_names(batch, decoded.fields.address, decoded.fields.perms);
+}
+
+/// Appends the members of the object of a word, and the brace that closes it.
+fn push_json(batch: &mut Batch, word: u128)
+    requires { length batch.old + 430 ≤ 32768 }
+    ensures row { AppendsRow Format.Json word batch.old batch.new }
+    ensures fits { length batch.new ≤ length batch.old + 430 }
+{
+    let decoded = Decoded::of_word(word);
+    let canonical = decoded.is_canonical();
+    push_json_members(batch, word, &decoded, canonical);
+}
+
+/// Appends the members of the object of a decoded word, and the brace that closes it.
+fn push_json_members(batch: &mut Batch, word: u128, decoded: &Decoded, canonical: bool)
+    requires { length batch.old + 430 ≤ 32768 }
+    ensures value { batch.new ≡ batch.old ++ json_text word decoded.now.fields decoded.now.bounds canonical }
+    ensures fits { length batch.new ≤ length batch.old + 430 }
+{
+    push_json_rights(batch, word, &decoded.fields);
+    push_json_bounds(batch, decoded);
+    batch.push(b"\",\"canonical\":");
+    if canonical {
+        batch.push(b"true}");
+    } else {
+        batch.push(b"false}");
+    }
+}
+
+/// Appends the members of the word, its permissions, its reserved bits, its flag and its type.
+fn push_json_rights(batch: &mut Batch, word: u128, fields: &Fields)
+    requires { length batch.old + 262 ≤ 32768 }
+    ensures value { batch.new ≡ batch.old ++ json_rights word fields.now }
+    ensures fits { length batch.new ≤ length batch.old + 262 }
+{
+    cc_io::push_digits(batch, b"\"word\":\"", word, 32);
+    cc_io::push_digits(batch, b"\",\"perms\":\"", u128::from(fields.perms), 4);
+    batch.push(b"\",\"names\":");
+    push_names_array(batch, fields.perms);
+    batch.push(b",\"reserved\":");
+    push_decimal(batch, fields.reserved);
+    batch.push(b",\"flag\":");
+    push_decimal(batch, u8::from(fields.flag));
+    cc_io::push_digits(batch, b",\"type\":\"", u128::from(fields.otype), 5);
+}
+
+/// Appends the names of the permissions from bit 0 up, as an array.
+fn push_names_array(batch: &mut Batch, perms: u16)
+    requires { length batch.old + 159 ≤ 32768 }
+    ensures value { batch.new ≡ batch.old ++ permissions_array perms }
+    ensures fits { length batch.new ≤ length batch.old + 159 }
+{
+    let mut names = Line::new();
+    push_permissions_array(&mut names, Perms::from_bits_retain(perms));
+    batch.push(names.bytes());
+}
+
+/// Appends the members of the address, the exponent and the bounds.
+fn push_json_bounds(batch: &mut Batch, decoded: &Decoded)
+    requires { length batch.old + 148 ≤ 32768 }
+    ensures value { batch.new ≡ batch.old ++ json_bounds decoded.now.fields decoded.now.bounds }
+    ensures fits { length batch.new ≤ length batch.old + 148 }
+{
+    cc_io::push_hexadecimal(
+        batch,
+        b"\",\"address\":\"",
+        u128::from(decoded.fields.address),
+    );
+    batch.push(b"\",\"exponent\":");
+    push_decimal(batch, decoded.exponent);
+    cc_io::push_hexadecimal(batch, b",\"base\":\"", u128::from(decoded.bounds.base));
+    cc_io::push_hexadecimal(batch, b"\",\"top\":\"", decoded.bounds.top);
+}
+
+/// Appends the address and the names of the permissions, with a comma before each.
+fn push_address_and_names(batch: &mut Batch, address: u64, perms: u16)
+    requires { length batch.old + 200 ≤ 32768 }
+    ensures value { batch.new ≡ batch.old ++ codes "," ++ hexadecimal address ++ codes "," ++ permissions_text perms }
+    ensures fits { length batch.new ≤ length batch.old + 200 }
+{
+    push_byte(batch, b',');
+    push_hexadecimal(batch, u128::from(address));
+    push_byte(batch, b',');
+    push_names(batch, perms);
+}
+
+/// Appends the names of the permissions from bit 0 up, joined by `+`, or `-` for none.
+fn push_names(batch: &mut Batch, perms: u16)
+    requires { length batch.old + 125 ≤ 32768 }
+    ensures value { batch.new ≡ batch.old ++ permissions_text perms }
+    ensures fits { length batch.new ≤ length batch.old + 125 }
+{
+    let mut names = Line::new();
+    push_permissions(&mut names, Perms::from_bits_retain(perms));
+    batch.push(names.bytes());
+}
+
+/// Appends the eight values of a decoded word, and a separator between each
+/// two.
+fn push_values(batch: &mut Batch, separator: u8, word: u128, decoded: &Decoded, canonical: bool)
+    requires { length batch.old + 300 ≤ 32768 }
+    ensures value { batch.new ≡ batch.old
+        ++ values_text (separator ∷ []) word decoded.now.fields decoded.now.bounds canonical }
+    ensures fits { length batch.new ≤ length batch.old + 150 }
+{
+    push_bounds(batch, separator, word, &decoded.bounds);
+    push_rights(batch, separator, &decoded.fields);
+    push_encoding(batch, separator, decoded.exponent, canonical);
+}
+
+/// Appends the word, its base and its top, the first three values.
+fn push_bounds(batch: &mut Batch, separator: u8, word: u128, bounds: &Span)
+    requires { length batch.old + 102 ≤ 32768 }
+    ensures value { batch.new ≡ batch.old ++ digits_of 32 word ++ (separator ∷ []) ++ hexadecimal bounds.now.base
+        ++ (separator ∷ []) ++ hexadecimal bounds.now.top }
+    ensures fits { length batch.new ≤ length batch.old + 102 }
+{
+    batch.push_word(word);
+    push_byte(batch, separator);
+    push_span(batch, separator, bounds);
+}
+
+/// Appends base and top, with a separator between them.
+#[inline(always)]
+fn push_span(batch: &mut Batch, separator: u8, bounds: &Span)
+    requires { length batch.old + 69 ≤ 32768 }
+    ensures value { batch.new ≡ batch.old ++ hexadecimal bounds.now.base ++ (separator ∷ [])
+        ++ hexadecimal bounds.now.top }
+    ensures fits { length batch.new ≤ length batch.old + 69 }
+{
+    push_hexadecimal(batch, u128::from(bounds.base));
+    push_byte(batch, separator);
+    push_hexadecimal(batch, bounds.top);
+}
+
+/// Appends permissions, flag and type, with a separator before each.
+fn push_rights(batch: &mut Batch, separator: u8, fields: &Fields)
+    requires { length batch.old + 14 ≤ 32768 }
+    ensures value { batch.new ≡ batch.old ++ (separator ∷ []) ++ digits_of 4 fields.now.perms ++ (separator ∷ [])
+        ++ decimal (bit_of fields.now.flag) ++ (separator ∷ []) ++ digits_of 5 fields.now.otype }
+    ensures fits { length batch.new ≤ length batch.old + 14 }
+{
+    push_byte(batch, separator);
+    push_digits(batch, u64::from(fields.perms), 4);
+    push_byte(batch, separator);
+    push_decimal(batch, u8::from(fields.flag));
+    push_byte(batch, separator);
+    push_digits(batch, u64::from(fields.otype), 5);
+}
+
+/// Appends the exponent and whether the word is canonical, with a separator before each.
+fn push_encoding(batch: &mut Batch, separator: u8, exponent: u8, canonical: bool)
+    requires small { exponent < 100 }
+    requires room { length batch.old + 7 ≤ 32768 }
+    ensures value { batch.new ≡ batch.old ++ (separator ∷ []) ++ decimal exponent ++ (separator ∷ [])
+        ++ (if canonical then codes "yes" else codes "no") }
+    ensures fits { length batch.new ≤ length batch.old + 7 }
+{
+    push_byte(batch, separator);
+    push_decimal(batch, exponent);
+    push_byte(batch, separator);
+    if canonical {
+        batch.push(b"yes");
+    } else {
+        batch.push(b"no");
+    }
+}

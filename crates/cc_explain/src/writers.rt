@@ -1,0 +1,111 @@
+//! Bytes, digits and numbers appended to the page of replies.
+ghost use Rattle.std.specs.Prelude.{◌≡◌, ◌+◌, ◌≤◌, ◌<◌, ◌++◌, ◌∷◌, [], decimal, false, length, if◌then◌else◌};
+ghost use Rattle.std.specs.Fmt.{digits};
+ghost use Rattle.cc_word.specs.WordText.{digits_of, hexadecimal};
+ghost use Rattle.cc_explain.specs.Row.{padded};
+ghost use Rattle.cc_io.proofs.DigitLemmas.{HasDigits};
+
+use cc_io::Page;
+use cc_word::write_half;
+
+/// The length of the page of replies in bytes.
+pub(crate) const ROOM: usize = 32768;
+
+/// The page of replies that are not yet written.
+pub(crate) type Batch = Page<ROOM>;
+
+/// Appends a byte.
+#[inline(always)]
+pub(crate) fn push_byte(batch: &mut Batch, byte: u8)
+    requires { length batch.old + 1 ≤ 32768 }
+    ensures value { batch.new ≡ batch.old ++ byte ∷ [] }
+    ensures fits { length batch.new ≡ length batch.old + 1 }
+{
+    batch.push(&[byte]);
+}
+
+/// Appends a byte if `wanted` is true. The byte is stored in either case, so that there is no
+/// branch.
+#[inline(always)]
+pub(crate) fn push_byte_if(batch: &mut Batch, byte: u8, wanted: bool)
+    requires { length batch.old + 1 ≤ 32768 }
+    ensures value { batch.new ≡ batch.old ++ (if wanted then byte ∷ [] else []) }
+    ensures fits { length batch.new ≤ length batch.old + 1 }
+{
+    batch.push(&[byte]);
+    batch.drop_last(usize::from(!wanted));
+}
+
+/// Appends the last `count` hexadecimal digits of a number, at most 16.
+#[inline(always)]
+pub(crate) fn push_digits(batch: &mut Batch, number: u64, count: usize)
+    requires digits { count ≤ 16 }
+    requires room { length batch.old + count ≤ 32768 }
+    ensures value { batch.new ≡ batch.old ++ digits_of count number }
+    ensures fits { length batch.new ≡ length batch.old + count }
+{
+    batch.push(&write_half(number)[16 - count..]);
+}
+
+/// Appends a number below 100 in decimal digits.
+#[inline(always)]
+#[tactic(auto, using(cc_io::proofs::DecimalLemmas::one_digit, cc_io::proofs::DecimalLemmas::two_digits))]
+pub(crate) fn push_decimal(batch: &mut Batch, number: u8)
+    requires small { number < 100 }
+    requires room { length batch.old + 2 ≤ 32768 }
+    ensures value { batch.new ≡ batch.old ++ decimal number }
+    ensures fits { length batch.new ≤ length batch.old + 2 }
+{
+    let ones = b'0' + number % 10;
+    if number < 10 {
+        return batch.push(&[ones]);
+    }
+    batch.push(&[b'0' + number / 10 % 10, ones]);
+}
+
+/// Appends `0x` and a number's hexadecimal digits without leading zeros.
+#[inline(always)]
+pub(crate) fn push_hexadecimal(batch: &mut Batch, number: u128)
+    requires { length batch.old + 34 ≤ 32768 }
+    ensures value { batch.new ≡ batch.old ++ hexadecimal number }
+    ensures fits { length batch.new ≤ length batch.old + 34 }
+{
+    batch.push(b"0x");
+    if number < 1 << 64 {
+        push_significant(batch, number as u64);
+    } else {
+        push_significant(batch, (number >> 64) as u64);
+        batch.push(&write_half((number % (1 << 64)) as u64));
+    }
+}
+
+/// Appends `0x` and the last 17 hexadecimal digits of a number.
+#[inline(always)]
+pub(crate) fn push_padded(batch: &mut Batch, number: u128)
+    requires { length batch.old + 19 ≤ 32768 }
+    ensures value { batch.new ≡ batch.old ++ padded number }
+    ensures fits { length batch.new ≡ length batch.old + 19 }
+{
+    batch.push(b"0x");
+    push_digits(batch, (number >> 64) as u64, 1);
+    batch.push(&write_half((number % (1 << 64)) as u64));
+}
+
+/// Appends a number's hexadecimal digits without `0x` and leading zeros.
+#[inline(always)]
+fn push_significant(batch: &mut Batch, number: u64)
+    requires { length batch.old + 16 ≤ 32768 }
+    ensures value { batch.new ≡ batch.old ++ digits 16 false number }
+    ensures fits { length batch.new ≤ length batch.old + 16 }
+{
+    let count = digit_count(number);
+    batch.push(&write_half(number << (64 - 4 * count)));
+    batch.drop_last(16 - count);
+}
+
+/// Returns the number of hexadecimal digits of a number without leading zeros, 1 to 16.
+fn digit_count(number: u64) -> usize
+    ensures { HasDigits result number }
+{
+    ((67 - number.leading_zeros()) / 4).max(1) as usize
+}

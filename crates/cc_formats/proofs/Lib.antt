@@ -1,5 +1,0 @@
-pub mod StartLemmas
-pub mod CutLemmas
-pub mod TraceLemmas
-pub mod FormatLemmas
-pub mod PowerLemmas

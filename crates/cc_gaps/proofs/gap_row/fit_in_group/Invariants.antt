@@ -1,7 +1,0 @@
-use Rattle.std.proofs.Common.{◌+◌}
-use Rattle.cc_gaps.specs.GapRow.{HaveNoFit}
-use Rattle.cc_gaps.proofs.gap_row.fit_in_group.Given as goal
-
--- no block so far has a fit
-abbrev pub invariant-loop-at : goal.invariant-loop-at
-invariant-loop-at l = HaveNoFit l.blocks.blocks l.at (l.less + 1) l.align
