@@ -30,7 +30,7 @@ use Rattle.cc_script.proofs.RunLemmas.{between_safe}
 use Rattle.cc_machine.specs.Run.{IsReached}
 use Rattle.cc_script.specs.Lending.{AnswersLine, RefusesScriptRest}
 use Rattle.cc_script.specs.declared.lent.Lent.{Lent}
-use Rattle.cc_script.specs.Session.{Opens}
+use Rattle.cc_script.specs.Running.{Opens}
 use Rattle.cc_syntax.specs.declared.tally.Tally.{Tally}
 use Rattle.cc_io.specs.Devices.{TakesPrefix}
 use Rattle.cc_script.proofs.OutputLemmas.{stopped_begins}

@@ -24,7 +24,7 @@ use Rattle.cc_syntax.specs.Replies.{reply_text, is_error}
 use Rattle.cc_script.proofs.ReplyLemmas.{takes_further, replies_text-append}
 use Rattle.cc_script.proofs.RunningLemmas.{all_opened, io, joined, pumps_script, runs_script, start_enough, stops_waiting}
 use Rattle.cc_script.specs.Failures.{StopsInReplies}
-use Rattle.cc_script.specs.Session.{CountsRun, Opens, RunsSession, TakesOperation, exchanges_of, rest_exchange}
+use Rattle.cc_script.specs.Running.{CountsRun, Opens, RunsSession, TakesOperation, exchanges_of, rest_exchange}
 use Rattle.cc_machine.specs.Run.{IsReached}
 use Rattle.cc_script.specs.Lending.{AnswersLine, RefusesScriptRest, StaysLent}
 use Rattle.cc_script.specs.declared.lent.Lent.{Lent}

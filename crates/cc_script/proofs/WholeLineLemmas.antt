@@ -10,7 +10,7 @@ use Rattle.cc_io.specs.declared.summary.Summary.{Summary}
 use Rattle.cc_syntax.specs.Replies.{reply_text}
 use Rattle.cc_script.specs.Output.{Takes, TakesAll, with_line_feed, replies_text}
 use Rattle.cc_script.specs.Main.{IoState}
-use Rattle.cc_script.specs.Session.{RunsSession}
+use Rattle.cc_script.specs.Running.{RunsSession}
 use Rattle.cc_syntax.specs.declared.tally.Tally.{Tally}
 use Rattle.cc_script.specs.Failures.{Fails, RunsScript, StopsInReplies, StopsInReply, WritesPart}
 

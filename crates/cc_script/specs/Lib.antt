@@ -4,6 +4,6 @@ pub mod Main
 pub mod Failures
 pub mod Laws
 pub mod Answering
-pub mod Lent
-pub mod Session
+pub mod BorrowedMachine
+pub mod Running
 pub mod Lending

@@ -5,7 +5,7 @@ ghost use Rattle.cc_values.specs.declared.op.Op.{Op as OpSpec};
 ghost use Rattle.cc_syntax.specs.Commands.{operation_of};
 ghost use Rattle.cc_syntax.specs.Replies.{is_error};
 ghost use Rattle.cc_script.specs.Answering.{IsAnswered};
-ghost use Rattle.cc_script.specs.Lent.{TakesScriptLine};
+ghost use Rattle.cc_script.specs.BorrowedMachine.{TakesScriptLine};
 
 use cc_io::Page;
 use cc_machine::{Machine, Op, Reply};
@@ -14,7 +14,7 @@ use cc_word::Refusal;
 
 /// A borrowed machine that takes the commands of lines.
 #[derive(Drop)]
-struct Script<'a> {
+struct BorrowedMachine<'a> {
     /// The machine.
     machine: &'a mut Machine,
 }
@@ -39,10 +39,10 @@ pub fn answer_line<const N: usize>(
     if line.len() > MOST_BYTES {
         return Err(Refusal::TooLong);
     }
-    take_command(&mut Script { machine }, text, line)
+    take_command(&mut BorrowedMachine { machine }, text, line)
 }
 
-impl<const N: usize> Taker<N> for Script<'_> {
+impl<const N: usize> Taker<N> for BorrowedMachine<'_> {
     type Out = Result<(), Refusal>;
 
     ghost Taken = { TakesScriptLine };

@@ -7,7 +7,7 @@ ghost use Rattle.cc_machine.specs.Run.{IsReached};
 ghost use Rattle.cc_script.specs.Failures.{StopsInReplies};
 ghost use Rattle.cc_script.specs.Main.{io_of};
 ghost use Rattle.cc_script.specs.Laws.{KeepsLaws};
-ghost use Rattle.cc_script.specs.Session.{Opens, RunsSession, TakesOperation};
+ghost use Rattle.cc_script.specs.Running.{Opens, RunsSession, TakesOperation};
 ghost use Rattle.cc_script.specs.Lending.{AnswersLine, RefusesScriptRest};
 ghost use Rattle.cc_syntax.specs.Tally.{IsTally};
 

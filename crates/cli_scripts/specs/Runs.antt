@@ -16,7 +16,7 @@ use Rattle.cc_draw.specs.Drawing.{IsDrawing}
 use Rattle.cc_draw.specs.Map.{IsMap}
 use Rattle.cc_syntax.specs.Planning.{plan_opening, pool_of}
 use Rattle.cc_script.specs.Main.{Main}
-use Rattle.cc_script.specs.Session.{RunsSession}
+use Rattle.cc_script.specs.Running.{RunsSession}
 use Rattle.cli_scripts.specs.declared.session.Session.{Session}
 use Rattle.cli_scripts.specs.Statistics.{statistics_text}
 use Rattle.cc_syntax.specs.Tally.{Exchange, IsTally}

@@ -1,5 +1,5 @@
 use Rattle.std.proofs.Common.{◌≡◌, false, take}
-use Rattle.cc_script.specs.Session.{Opens}
+use Rattle.cc_script.specs.Running.{Opens}
 use Rattle.cc_script.proofs.running.take_opening.Given as goal
 
 abbrev pub invariant-loop-op : goal.invariant-loop-op
