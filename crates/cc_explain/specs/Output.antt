@@ -5,7 +5,7 @@ use Rattle.cc_io.specs.Text.{with_line_feed, refusal_text}
 use Rattle.cc_word.specs.Refusal.{code_of, name_of}
 use Rattle.cc_word.specs.declared.refusal.Refusal.{Refusal}
 use Rattle.cc_io.specs.Answers.{Answer}
-use Rattle.cc_io.specs.Serving.{Ending}
+use Rattle.cc_io.specs.Serving.{EndingClaim}
 use Rattle.cc_explain.specs.Input.{IsWordEntry, word_of_entry}
 use Rattle.cc_explain.specs.Place.{after_entry, options_after, place_text}
 use Rattle.cc_explain.specs.Row.{IsWordRow, header_text}
@@ -83,7 +83,7 @@ IsEnding options [] text = text ≡ []
 IsEnding options (byte ∷ rest) text = IsUnfinished options (byte ∷ rest) text
 
 -- EndsListing holds if `text` is the reply to the bytes after these entries.
-abbrev pub EndsListing : Options → Ending
+abbrev pub EndsListing : Options → EndingClaim
 EndsListing options entries rest text = IsEnding (options_after options (length entries)) rest text
 
 -- The options of a listing in a format of all lines, without addresses.

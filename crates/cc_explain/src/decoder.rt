@@ -1,4 +1,4 @@
-//! The replies to entries, and the refusal of trailing bytes.
+//! The replies to entries, and to trailing bytes.
 ghost use Rattle.std.specs.Prelude.{◌≡◌, ◌≤◌, ◌+◌, ◌++◌, ◌↔◌, ℕ, IsTrue, false, length};
 ghost use Rattle.cc_word.specs.declared.refusal.Refusal.TheVariants as RefusalSpec;
 ghost use Rattle.cc_explain.specs.Decoder.{
@@ -23,8 +23,8 @@ use crate::writers::{Batch, ROOM};
 use cc_io::{Answerer, Format, InputForm, refusal_bytes};
 use cc_word::Refusal;
 
-/// Replies to an entry with the row of its word, or with `error 1 syntax`. Each reply has a line
-/// feed.
+/// Replies to an entry with the row of its word, or with the refusal `syntax` in this format. Each
+/// reply has a line feed.
 // The decoder of all words, without addresses: it tests nothing for a word.
 #[derive(Clone, Copy)]
 pub(crate) struct PlainDecoder {

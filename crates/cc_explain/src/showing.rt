@@ -8,8 +8,9 @@ use crate::decoding::header;
 use crate::writers::Batch;
 use cc_io::{Answerer, Format, InputForm, IoError, Sink, Summary, write_and_flush};
 
-/// Writes the header of a format, and then the reply of [`decode_words`](crate::decode_words) to a line that is this
-/// string: the row of its word, or `error 1 syntax`. Flushes the sink once after it.
+/// Writes the header of a format, and then the reply of [`decode_words`](crate::decode_words) to a
+/// line that is this string: the row of its word, or the refusal `syntax` in this format. Flushes
+/// the sink once after it.
 ///
 /// A word is 32 hexadecimal digits of either case, with or without `0x` in front.
 ///

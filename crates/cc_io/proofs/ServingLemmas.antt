@@ -9,7 +9,7 @@ use Rattle.cc_io.specs.Devices.{InputState, IsOutcome, OutputState}
 use Rattle.cc_io.specs.Frames.{Frame}
 use Rattle.cc_io.specs.Answers.{Answer, AnswersAll, EndsWith, Relation, answers_text, seen}
 use Rattle.cc_io.specs.Correct.{Pumps, PumpsText, WritesOutput, StopsOnPage, StopsAfterAnswers}
-use Rattle.cc_io.specs.Serving.{Claim, Ending, RefusesRest, WritesWhole, StopsInPage, StopsAfter, ServesText, Serves}
+use Rattle.cc_io.specs.Serving.{Claim, EndingClaim, RefusesRest, WritesWhole, StopsInPage, StopsAfter, ServesText, Serves}
 use Rattle.cc_io.specs.declared.summary.IoError.{IoError}
 use Rattle.cc_io.specs.declared.summary.IoError.TheVariants.{Read, Write}
 use Rattle.cc_io.specs.declared.summary.Summary.{Summary}
@@ -17,7 +17,7 @@ use Rattle.cc_io.proofs.EngineLemmas.{all_further}
 
 -- The replies of an answerer from `old` on, which ends as `new`, satisfy the claims, and one to
 -- trailing bytes is an error.
-pub record Makes {S : Type 0} (Answered Ended : Relation S) (Are : Claim) (Ends : Ending) (old new : S) : Type 0 where
+pub record Makes {S : Type 0} (Answered Ended : Relation S) (Are : Claim) (Ends : EndingClaim) (old new : S) : Type 0 where
   pub are : (entries : List (List ℕ)) (answers : List Answer) (mid : S) (rest : List ℕ) (ending : Answer)
       → AnswersAll Answered old (seen entries) answers mid → EndsWith Ended mid rest ending new → Are entries answers
   pub ends : (entries : List (List ℕ)) (answers : List Answer) (mid : S) (rest : List ℕ) (ending : Answer)
@@ -70,7 +70,7 @@ runs_through {S} done Answered Ended frame room most old new pending c j t u res
   | inr early ↦ absurd (cc (early.0, going))
 ]
 
-module _ {S : Type 0} (Answered Ended : Relation S) (Are : Claim) (Ends : Ending) (old new : S) (makes : Makes Answered Ended Are Ends old new) where
+module _ {S : Type 0} (Answered Ended : Relation S) (Are : Claim) (Ends : EndingClaim) (old new : S) (makes : Makes Answered Ended Are Ends old new) where
   -- the state that answered all entries is the last
   none_left : EndsWith Ended new [] (record { text = []; is_error = false }) new
   none_left = (refl, refl, refl)

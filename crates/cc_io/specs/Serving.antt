@@ -17,17 +17,17 @@ Claim = (entries : List (List ℕ)) → List Answer → Type 0
 
 -- A claim that the last bytes written after the replies to these entries are those for `rest`, the
 -- trailing bytes, of which there may be none.
-abbrev pub Ending : Type 1
-Ending = (entries : List (List ℕ)) → (rest text : List ℕ) → Type 0
+abbrev pub EndingClaim : Type 1
+EndingClaim = (entries : List (List ℕ)) → (rest text : List ℕ) → Type 0
 
 -- `RefusesRest` holds if trailing bytes are refused as unfinished.
-abbrev pub RefusesRest : Ending
+abbrev pub RefusesRest : EndingClaim
 RefusesRest entries rest text = text ≡ rest_text rest
 
 -- `WritesWhole` holds if the sink took the whole output for `text`: `pending`, the reply to each
 -- entry, and that to trailing bytes, if any. `any_error` says whether a reply is an error, or
 -- there are trailing bytes.
-pub record WritesWhole (Are : Claim) (Ends : Ending) (frame : Frame) (pending text : List ℕ) (taken taken_now : Option (List ℕ)) (any_error : Bool) : Type 0 where
+pub record WritesWhole (Are : Claim) (Ends : EndingClaim) (frame : Frame) (pending text : List ℕ) (taken taken_now : Option (List ℕ)) (any_error : Bool) : Type 0 where
   pub answers : List Answer
   pub are_answers : Are (frame.entries [] text) answers
   pub ending : List ℕ
@@ -66,7 +66,7 @@ pub record StopsInPage (Are : Claim) (room most : ℕ) (pending : List ℕ) (ent
 
 -- `StopsAfter` holds if the sink failed after the replies to all entries. It had taken `pending`, all
 -- these replies and a prefix of that to trailing bytes.
-pub record StopsAfter (Are : Claim) (Ends : Ending) (frame : Frame) (pending text : List ℕ) (taken taken_now : Option (List ℕ)) : Type 0 where
+pub record StopsAfter (Are : Claim) (Ends : EndingClaim) (frame : Frame) (pending text : List ℕ) (taken taken_now : Option (List ℕ)) : Type 0 where
   pub answers : List Answer
   pub are_answers : Are (frame.entries [] text) answers
   pub ending : List ℕ
@@ -77,7 +77,7 @@ pub record StopsAfter (Are : Claim) (Ends : Ending) (frame : Frame) (pending tex
 
 -- `ServesText` holds if the bytes written are those for `text`, which the source gave. By the result
 -- they are its whole output, or the part before the failure of the source or of the sink.
-abbrev pub ServesText : (Are : Claim) → (Ends : Ending) → Frame → (room most : ℕ) → (pending text : List ℕ) → (left taken taken_now : Option (List ℕ)) → Result Summary IoError → Type 0
+abbrev pub ServesText : (Are : Claim) → (Ends : EndingClaim) → Frame → (room most : ℕ) → (pending text : List ℕ) → (left taken taken_now : Option (List ℕ)) → Result Summary IoError → Type 0
 ServesText Are Ends frame room most pending text left taken taken_now (Ok summary) =
     IsAtEnd left × WritesWhole Are Ends frame pending text taken taken_now summary.any_error
 ServesText Are Ends frame room most pending text left taken taken_now (Err Read) = WritesReplies Are pending (frame.entries [] text) taken taken_now
@@ -89,7 +89,7 @@ ServesText Are Ends frame room most pending text left taken taken_now (Err Write
 -- `Serves` holds if the bytes written are those for some text that the source gave, and the result
 -- reports the failures of the source and the sink. If the source says which bytes are unread, this text
 -- is a prefix of them.
-pub record Serves (Are : Claim) (Ends : Ending) (frame : Frame) (room most : ℕ) (pending : List ℕ) (input input_now : InputState) (output output_now : OutputState) (result : Result Summary IoError) : Type 0 where
+pub record Serves (Are : Claim) (Ends : EndingClaim) (frame : Frame) (room most : ℕ) (pending : List ℕ) (input input_now : InputState) (output output_now : OutputState) (result : Result Summary IoError) : Type 0 where
   pub text : List ℕ
   pub given : Consumes input.unread input_now.unread text
   pub serves : ServesText Are Ends frame room most pending text input_now.unread output.taken output_now.taken result

@@ -252,8 +252,8 @@ pub(crate) fn after_help<'a>(page: Page) -> &'a str {
         Page::Show => "\
 The word is in its memory form, in which the null capability is all zeros. Any 32 digits are a word,
 without 0x before them; with --line or --format, they may have it. For any other input, prints
-`error 1 syntax`, with exit status 1. With --format, prints what `cheri-cap decode` prints for a line
-with the word in it.
+`error 1 syntax`, in json as an object, with exit status 1. With --format, prints what
+`cheri-cap decode` prints for a line with the word in it.
 
 The line shows a word as a tagged one: LOAD is r, STORE w, EXECUTE x, LOAD_CAP R and STORE_CAP W.
 (sentry) or (sealed) follows the bounds for a type that is not unsealed.
@@ -366,9 +366,9 @@ Prints a line for each word, in order:
             since many readers round numbers above 2^53, and the names of the permissions as an array
 For a line that is not a word, prints `error 1 syntax`. For an unterminated last line, or fewer than
 16 trailing bytes, prints `error 2 unfinished`, after the line for the word if that line is one. In
-json, an error is an object: {\"error\":1,\"name\":\"syntax\"}. Each word is decoded independently, so parts of the
-input can be decoded separately; but with `--format csv` the output of each part begins with the
-header.
+json, an error is an object: {\"error\":1,\"name\":\"syntax\"}. Each word is decoded independently, so
+parts of the input can be decoded separately; but with `--format csv` the output of each part begins
+with the header.
 
 With --at, the address of each word comes first, as a separate column: START for the first word after
 the skipped bytes, and 16 more for each further word. In a core file, a segment may begin at an

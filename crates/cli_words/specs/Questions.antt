@@ -38,8 +38,8 @@ IsUnanswerable (Explain word) = ¬ IsTypedWord word.now
 IsUnanswerable (DrawWindow word) = ¬ IsTypedWord word.now
 IsUnanswerable (ExplainLength base size) = IsErr (request_at base.address size.now)
 
--- Whether there is a hint on a question: for `show` without `--line` and `--format` on a word after `0x`, and for `round` and `explain --length` on
--- the numbers.
+-- Whether there is a hint on a question: for `show` without `--line` and `--format` on a word after
+-- `0x`, and for `round` and `explain --length` on the numbers.
 abbrev pub has_hint : (hints : Bool) → Question → Bool
 has_hint hints (Show word format) = is_word_hinted (hints && not (is_some format)) word.now
 has_hint hints (Round base size) = is_hinted hints (after_base base (size.now ∷ []))
