@@ -1,5 +1,5 @@
 -- The lists that a placer of gaps may be holding.
-use Rattle.std.proofs.Common.{ℕ, ◌≡◌, ◌+◌, ◌<◌, ◌≤◌, List, [], ◌∷◌, Option, Some, None, Contains, IfSome, IsSomeAnd, length, remove, arith, sym, ap, subst}
+use Rattle.std.proofs.Common.{ℕ, ◌≡◌, ◌+◌, ◌<◌, ◌≤◌, List, [], ◌∷◌, Option, Some, None, Contains, IfSome, IsSomeAnd, length, remove, arith, sym, ap}
 use Rattle.std.proofs.lemmas.List.Edits.{length-remove}
 use Rattle.std.proofs.lemmas.List.Sorted.{IsPermutation-remove, IsPermutation-sym, length_permutation}
 use Rattle.cc_bounds.specs.declared.span.Span.{Span}

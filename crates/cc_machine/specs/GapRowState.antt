@@ -2,7 +2,7 @@
 use Rattle.std.specs.Prelude.{ℕ, ◌≡◌, ◌+◌, ◌<◌, ◌≤◌, List, [], flat_map, length, take}
 use Rattle.std.specs.List.{slice_index_or}
 use Rattle.cc_bounds.specs.declared.span.Span.{Span}
-use Rattle.cc_machine.specs.declared.gap_place.Place.{Place}
+use Rattle.cc_placer.specs.declared.hint.Hint.{Hint}
 
 -- A row: its gaps, in blocks, in the order of their addresses, and the maximum number of gaps.
 pub record GapRowState : Type 0 where
@@ -22,7 +22,7 @@ abbrev pub index_at : List (List Span) → (block at : ℕ) → ℕ
 index_at blocks block at = length (gaps_of (take block blocks)) + at
 
 -- The number of gaps before a place.
-abbrev pub index_of : GapRowState → Place → ℕ
+abbrev pub index_of : GapRowState → (place : Hint) → ℕ
 index_of row place = index_at row.blocks place.block place.at
 
 -- IsPlaceAt holds if the position in a block has a gap, or is the end of the blocks.
@@ -32,5 +32,5 @@ pub record IsPlaceAt (blocks : List (List Span)) (block at : ℕ) : Type 0 where
   pub end : length blocks ≤ block → at ≡ 0
 
 -- IsPlaceIn holds if the place has a gap of the row, or is its end.
-abbrev pub IsPlaceIn : GapRowState → Place → Type 0
+abbrev pub IsPlaceIn : GapRowState → (place : Hint) → Type 0
 IsPlaceIn row place = IsPlaceAt row.blocks place.block place.at

@@ -4,8 +4,8 @@ ghost use Rattle.std.specs.Prelude.{insert, remove, slice_set, slice_get, All, I
 ghost use Rattle.std.specs.Prelude.{None, option_map};
 ghost use Rattle.std.specs.List.{slice_index_or};
 ghost use Rattle.cc_bounds.specs.declared.span.Span.{Span as SpanSpec};
-ghost use Rattle.cc_machine.specs.declared.gap_place.Place.{Place as PlaceSpec};
 ghost use Rattle.cc_placer.specs.PlacerState.{IsSomeBytes};
+ghost use Rattle.cc_placer.specs.declared.hint.Hint.{Hint as PlaceSpec};
 ghost use Rattle.cc_machine.specs.Gaps.{AreGaps, IsFirstFit};
 ghost use Rattle.cc_machine.specs.GapRowState.{IsPlaceAt, IsPlaceIn, gaps_in, gaps_of, index_at, index_of};
 ghost use Rattle.cc_machine.specs.GapRow.{AreHeaded, HaveNoFit, IsAtMost, IsHead, IsLocated, IsSplit};
@@ -13,8 +13,8 @@ ghost use Rattle.cc_machine.specs.GapRow.{AreHeaded, HaveNoFit, IsAtMost, IsHead
 use crate::gap_block::{GapBlock, HALF, MOST_GAPS};
 use crate::gap_blocks::GapBlocks;
 use crate::gap_heads::{GROUP, Head, Heads};
-use crate::gap_place::Place;
 use cc_bounds::Span;
+use cc_placer::Hint;
 use std::alloc::{AllocError, Global};
 use std::marker::Model;
 
@@ -27,6 +27,10 @@ const JOINED_GAPS: usize = 48;
 /// A gap is near a bound if it is shorter by at most this part of the bound.
 // otherwise each object that is cut from a large gap would have the bound computed again
 const NEAR: u64 = 1024;
+
+/// A place in a row of gaps: a block, and a position in it. The end of the row is the position 0 of
+/// the block after the last.
+pub(crate) type Place = Hint;
 
 /// Gaps in the order of their addresses, in blocks of up to 64.
 ///

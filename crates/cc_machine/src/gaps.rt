@@ -10,8 +10,7 @@ ghost use Rattle.cc_machine.specs.Gaps.{AreGaps};
 ghost use Rattle.cc_machine.specs.FreeSpace.{AddsBytes, LiesInGap};
 ghost use Rattle.cc_machine.specs.GapRowState.{IsPlaceIn, gaps_in, index_of};
 
-use crate::gap_place::Place;
-use crate::gap_row::GapRow;
+use crate::gap_row::{GapRow, Place};
 use cc_bounds::Span;
 use cc_placer::{Hint, Placer};
 use std::alloc::{AllocError, Global};
@@ -73,12 +72,7 @@ impl Placer for GapPlacer {
     }
 
     fn find(&self, len: u128, align: u64) -> Option<(u64, Hint)> {
-        let (start, place) = self.row.first_fit(len, align)?;
-        let hint = Hint {
-            block: place.block,
-            at: place.at,
-        };
-        Some((start, hint))
+        self.row.first_fit(len, align)
     }
 
     fn hold(&mut self, span: Span) {
@@ -87,11 +81,7 @@ impl Placer for GapPlacer {
 
     #[inline(always)]
     fn hold_at(&mut self, span: Span, hint: Hint) {
-        let near = Place {
-            block: hint.block,
-            at: hint.at,
-        };
-        take(&mut self.row, span, near);
+        take(&mut self.row, span, hint);
         self.count += 1;
     }
 

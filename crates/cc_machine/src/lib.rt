@@ -7,7 +7,6 @@ mod derivations;
 mod gap_block;
 mod gap_blocks;
 mod gap_heads;
-mod gap_place;
 mod gap_row;
 mod gaps;
 mod machine;
