@@ -12,7 +12,7 @@ _cheri_cap() {
     plan) options+=' --slots --align --stats' ;;
     map) options+=' --slots --align --svg' ;;
     replay) options+=' --format --align --realloc --sweep --min --pool --strict --summary --each --sizes --svg --script' ;;
-    decode) options+=' --format --bytes --skip --count --at --holds --perms --unsealed --tags' ;;
+    decode) options+=' --format --bytes --elf --skip --count --at --holds --perms --unsealed --tags' ;;
     show) options+=' --line --format' ;;
     explain) options+=' --svg --length --base' ;;
     annotate) ;;

@@ -43,6 +43,7 @@ complete -c cheri-cap -n '__fish_seen_subcommand_from replay' -l svg -d 'Print a
 complete -c cheri-cap -n '__fish_seen_subcommand_from replay' -l script -d 'Print a script instead of the summary'
 complete -c cheri-cap -n '__fish_seen_subcommand_from decode' -l format -x -a 'columns text fixed csv json' -d 'Format of the output'
 complete -c cheri-cap -n '__fish_seen_subcommand_from decode' -l bytes -x -a 'little big' -d 'Read raw words of 16 bytes'
+complete -c cheri-cap -n '__fish_seen_subcommand_from decode' -l elf -d 'Read the segments of a core file'
 complete -c cheri-cap -n '__fish_seen_subcommand_from decode' -l skip -x -d 'Number of bytes that are not decoded'
 complete -c cheri-cap -n '__fish_seen_subcommand_from decode' -l count -x -d 'Maximum number of words'
 complete -c cheri-cap -n '__fish_seen_subcommand_from decode' -l at -x -d 'Print addresses from START'

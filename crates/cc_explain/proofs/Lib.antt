@@ -3,6 +3,7 @@ mod EntryLemmas
 mod AnswerLemmas
 mod PartLemmas
 mod ListLemmas
+mod CoreLemmas
 pub mod SkipLemmas
 mod RunLemmas
 mod AnnotateLemmas

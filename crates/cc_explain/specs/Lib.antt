@@ -7,6 +7,8 @@ pub mod Search
 pub mod Output
 pub mod Part
 pub mod Correct
+pub mod Elf
+pub mod Core
 pub mod Skip
 pub mod Decoder
 pub mod Annotate

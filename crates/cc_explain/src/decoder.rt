@@ -150,7 +150,7 @@ fn push_unfinished(out: &mut Batch, options: &Options<'_>, rest: &[u8])
 }
 
 /// Returns the line of the refusal of an entry that is not a word.
-fn syntax_refusal(format: Format) -> &'static [u8]
+pub(crate) fn syntax_refusal(format: Format) -> &'static [u8]
     ensures value { result.now ≡ refusal_line format RefusalSpec.Syntax }
     ensures fits { length result.now ≤ 32 }
 {
@@ -163,7 +163,7 @@ fn syntax_refusal(format: Format) -> &'static [u8]
 }
 
 /// Returns the line of the refusal of trailing bytes.
-fn unfinished_refusal(format: Format) -> &'static [u8]
+pub(crate) fn unfinished_refusal(format: Format) -> &'static [u8]
     ensures value { result.now ≡ refusal_line format RefusalSpec.Unfinished }
     ensures fits { length result.now ≤ 32 }
 {

@@ -126,7 +126,7 @@ fn push_header(page: &mut Batch, options: &Options<'_>)
 }
 
 /// Returns the name of the column of addresses in the header of a format, and a comma.
-fn place_name(format: Format) -> &'static [u8]
+pub(crate) fn place_name(format: Format) -> &'static [u8]
     ensures value { result.now ≡ place_name format }
     ensures fits { length result.now ≤ 10 }
 {

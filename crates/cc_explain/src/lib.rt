@@ -1,12 +1,14 @@
 //! Shows and decodes words. One word: its listing, and its explanation with the steps of decoding its bounds and a
-//! picture of its window; also the explanation of a request for bounds. Many words, of text or of raw bytes: the row of
-//! each; also a copy of a text with the line of each word after the word.
+//! picture of its window; also the explanation of a request for bounds. Many words, of text, of raw bytes or of a
+//! core file: the row of each; also a copy of a text with the line of each word after the word.
 #![tactic(auto)]
 
 mod annotating;
 mod annotator;
+mod cores;
 mod decoder;
 mod decoding;
+mod elf;
 mod entries;
 mod explained_request;
 mod explained_steps;
@@ -28,6 +30,7 @@ mod writers;
 
 pub use annotating::annotate;
 pub use cc_io::{ByteOrder, Format, InputForm};
+pub use cores::decode_core;
 pub use decoding::decode_words;
 pub use explained_request::push_explained_request;
 pub use explained_steps::{push_fields, push_mantissas, push_window_lines, push_word};

@@ -1,15 +1,16 @@
 -- The values of `explain` that are accepted together, and the errors of the program's arguments.
 use Rattle.std.proofs.Common.{◌≡◌, Bool, true, false, List, [], ◌∷◌, Option, Some, None, inl, inr, is_some, refl, subst, sym, option_map}
-use Rattle.std.specs.Prelude.{◌&&◌, Result, Ok, Err, not}
+use Rattle.std.specs.Prelude.{◌&&◌, codes, Result, Ok, Err, not}
 use Rattle.std.specs.Borrow.{Bor}
 use Rattle.std.specs.Result.{IfErr}
 use Rattle.clap.specs.Kinds.{or_else}
 use Rattle.clap.specs.Walk.{Text}
-use Rattle.clap.specs.Words.{App, FailsBy, HasKind, Kinds, fault_of, kind_of, subcommand_of, takes}
+use Rattle.clap.specs.Words.{App, FailsBy, HasKind, Kinds, Row, fault_of, first_of, kind_of, subcommand_of, takes}
 use Rattle.clap.specs.declared.error.Error.{Error}
 use Rattle.clap.specs.declared.error.kind.ErrorKind.{ErrorKind}
 use Rattle.clap.specs.declared.error.kind.ErrorKind.TheVariants.{OutOfMemory}
-use Rattle.cli.specs.Invocation.{choice_fault, choice_fault_in, faults_of, is_taken, kinds_in, list_fault, value_fault, search_fault}
+use Rattle.cc_values.specs.Values.{address_in, permissions_in}
+use Rattle.cli.specs.Invocation.{choice_fault, choice_fault_in, faults_of, is_taken, kinds_in, has_raw, is_on, is_read, list_fault, search_fault, search_fault_of, value_fault}
 
 -- ---- the values of `explain`
 
@@ -53,11 +54,25 @@ read_all true false at holds perms e = cc e
 read_all false count at holds perms e = cc e
 
 -- Values that have no error are all read.
-pub all_read : (has_tags has_bytes skip count at holds perms : Bool) → search_fault has_tags has_bytes (skip && (count && (at && (holds && perms)))) ≡ None
+all_read : (elf raw has_tags has_bytes skip count at holds perms : Bool) → search_fault elf raw has_tags has_bytes (skip && (count && (at && (holds && perms)))) ≡ None
     → (skip ≡ true) × (count ≡ true) × (at ≡ true) × (holds ≡ true) × (perms ≡ true)
-all_read true false skip count at holds perms e = cc e
-all_read true true skip count at holds perms e = read_all skip count at holds perms e
-all_read false has_bytes skip count at holds perms e = read_all skip count at holds perms e
+all_read true true has_tags has_bytes skip count at holds perms e = cc e
+all_read true false true false skip count at holds perms e = cc e
+all_read true false true true skip count at holds perms e = read_all skip count at holds perms e
+all_read true false false has_bytes skip count at holds perms e = read_all skip count at holds perms e
+all_read false raw true false skip count at holds perms e = cc e
+all_read false raw true true skip count at holds perms e = read_all skip count at holds perms e
+all_read false raw false has_bytes skip count at holds perms e = read_all skip count at holds perms e
+
+-- Values of `decode` that have no error are all read.
+pub reads : (rows : List Row) → search_fault_of rows ≡ None
+    → (is_read address_in (first_of (codes "skip") rows) ≡ true) × (is_read address_in (first_of (codes "count") rows) ≡ true)
+    × (is_read address_in (first_of (codes "at") rows) ≡ true) × (is_read address_in (first_of (codes "holds") rows) ≡ true)
+    × (is_read permissions_in (first_of (codes "perms") rows) ≡ true)
+reads rows e =
+    all_read (is_on (first_of (codes "elf") rows)) (has_raw rows) (is_some (first_of (codes "tags") rows)) (is_some (first_of (codes "bytes") rows))
+    (is_read address_in (first_of (codes "skip") rows)) (is_read address_in (first_of (codes "count") rows)) (is_read address_in (first_of (codes "at") rows))
+    (is_read address_in (first_of (codes "holds") rows)) (is_read permissions_in (first_of (codes "perms") rows)) e
 
 -- A text is given if and only if it has a value.
 pub is_some-now : (found : Option (Bor Text)) → is_some found ≡ is_some (option_map (λ text. text.now) found)

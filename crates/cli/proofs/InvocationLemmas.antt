@@ -400,7 +400,7 @@ module _ (aligns : Bor (List (Bor Text))) (are : texts aligns.now ≡ codes "1" 
     (
       set_gives decode.rules _ refl refl refl refl,
       (
-        set_gives decode.rules _ refl refl refl refl,
+        flag_gives decode.rules _ refl refl refl refl refl,
         (
           set_gives decode.rules _ refl refl refl refl,
           (
@@ -410,8 +410,14 @@ module _ (aligns : Bor (List (Bor Text))) (are : texts aligns.now ≡ codes "1" 
               (
                 set_gives decode.rules _ refl refl refl refl,
                 (
-                  flag_gives decode.rules _ refl refl refl refl refl,
-                  (set_gives decode.rules _ refl refl refl refl, (set_gives decode.rules _ refl refl refl refl, (help_gives decode.rules, tt))),
+                  set_gives decode.rules _ refl refl refl refl,
+                  (
+                    flag_gives decode.rules _ refl refl refl refl refl,
+                    (
+                      set_gives decode.rules _ refl refl refl refl,
+                      (set_gives decode.rules _ refl refl refl refl, (help_gives decode.rules, tt)),
+                    ),
+                  ),
                 ),
               ),
             ),

@@ -131,8 +131,9 @@ HasWordAlone rows word =
     (first_of (codes "word") rows ≡ Some word) × (first_of (codes "length") rows ≡ None) × (first_of (codes "base") rows ≡ None)
 
 -- `HasDecodeValues` holds if the numbers, the permissions and the file are those that the values of these options are, or `None` for
--- those that are not given, and `unsealed` says whether `--unsealed` is given.
+-- those that are not given, and `elf` and `unsealed` say whether `--elf` and `--unsealed` are given.
 pub record HasDecodeValues (rows : List Row) (values : DecodeValues) : Type 0 where
+  pub elf : values.elf ≡ is_on (first_of (codes "elf") rows)
   pub skip : IsRead address_in (first_of (codes "skip") rows) values.skip
   pub count : IsRead address_in (first_of (codes "count") rows) values.count
   pub at : IsRead address_in (first_of (codes "at") rows) values.at
@@ -251,13 +252,21 @@ abbrev pub list_fault_of : List Row → Option ErrorKind
 list_fault_of rows =
     list_fault (is_some (first_of (codes "list") rows)) (is_some (first_of (codes "length") rows)) (is_read address_in (first_of (codes "base") rows))
 
--- The kind of error of the given values, if there is one: `--tags` requires `--bytes`, and the others are read.
-abbrev pub search_fault : (has_tags has_bytes is_read : Bool) → Option ErrorKind
-search_fault has_tags has_bytes is_read = if has_tags && not has_bytes then Some MissingRequiredArgument else value_fault is_read
+-- The kind of error of the given values, if there is one: `--elf` excludes the options of raw words, `--tags` requires `--bytes`, and the
+-- others are read.
+abbrev pub search_fault : (has_elf is_raw has_tags has_bytes is_read : Bool) → Option ErrorKind
+search_fault has_elf is_raw has_tags has_bytes is_read =
+    if has_elf && is_raw then Some ArgumentConflict else if has_tags && not has_bytes then Some MissingRequiredArgument else value_fault is_read
+
+-- Whether an option of raw words is given, which says their order, their place or their tags.
+abbrev pub has_raw : List Row → Bool
+has_raw rows =
+    is_some (first_of (codes "bytes") rows) || (is_some (first_of (codes "skip") rows) || (is_some (first_of (codes "count") rows)
+    || (is_some (first_of (codes "at") rows) || is_some (first_of (codes "tags") rows))))
 
 -- The kind of error of the values of `decode` in these rows, if there is one.
 abbrev pub search_fault_of : List Row → Option ErrorKind
-search_fault_of rows = search_fault (is_some (first_of (codes "tags") rows)) (is_some (first_of (codes "bytes") rows))
+search_fault_of rows = search_fault (is_on (first_of (codes "elf") rows)) (has_raw rows) (is_some (first_of (codes "tags") rows)) (is_some (first_of (codes "bytes") rows))
     (is_read address_in (first_of (codes "skip") rows) && (is_read address_in (first_of (codes "count") rows)
     && (is_read address_in (first_of (codes "at") rows)
     && (is_read address_in (first_of (codes "holds") rows) && is_read permissions_in (first_of (codes "perms") rows)))))

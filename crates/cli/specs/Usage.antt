@@ -117,12 +117,12 @@ with_search command =
     let kinds = with_rule (with_rule places (valued_option (codes "perms"))) (flag_option (codes "unsealed")) in
     with_rule kinds (valued_option (codes "tags"))
 
--- The command `decode [--format FORMAT] [--bytes ORDER] [--skip N] [--count N] [--at START]
+-- The command `decode [--format FORMAT] [--bytes ORDER] [--elf] [--skip N] [--count N] [--at START]
 -- [--holds ADDRESS] [--perms NAMES] [--unsealed] [--tags FILE] [FILE]`.
 abbrev pub decode_command : (formats orders : Bor (List (Bor Text))) → App
 decode_command formats orders =
-    let options = with_rule (with_rule (new_app (codes "decode")) (choice_option (codes "format") formats)) (choice_option (codes "bytes") orders) in
-    with_rule (with_search options) (optional_argument (codes "file"))
+    let forms = with_rule (with_rule (new_app (codes "decode")) (choice_option (codes "format") formats)) (choice_option (codes "bytes") orders) in
+    with_rule (with_search (with_rule forms (flag_option (codes "elf")))) (optional_argument (codes "file"))
 
 -- The command `annotate [FILE]`.
 abbrev pub annotate_command : App

@@ -78,6 +78,10 @@ pub(crate) const DECODE_USAGE: &str = "cheri-cap decode [OPTIONS] [FILE]";
 /// The message if `--tags` is given without `--bytes`.
 pub(crate) const TAGS_CHOICE: &str = "give `--bytes ORDER` with `--tags FILE`";
 
+/// The message if `--elf` is given with an option of raw words.
+pub(crate) const ELF_CHOICE: &str =
+    "give `--elf` without `--bytes`, `--skip`, `--count`, `--at` and `--tags`";
+
 /// The subject of the help of an argument.
 #[derive(Clone, Copy)]
 pub(crate) enum Topic {
@@ -96,6 +100,7 @@ pub(crate) enum Topic {
     Svg,
     Format,
     Bytes,
+    Elf,
     Skip,
     Count,
     At,
@@ -174,6 +179,8 @@ Output format: `columns`; `text`, the one-line form of debuggers; `fixed`, colum
         Topic::Bytes => "\
 Read raw words of 16 bytes, the lowest byte first or the highest
 [default: lines of digits]",
+        Topic::Elf =>
+            "Read a core file: the words in the segments of an ELF64 file, each with its address",
         Topic::Skip =>
             "Number of bytes at the start of the input that are not decoded [default: 0]",
         Topic::Count => "Maximum number of words, or of lines, that are decoded [default: all]",
@@ -371,9 +378,13 @@ parts of the input can be decoded separately; but with `--format csv` the output
 with the header.
 
 With --at, the address of each word comes first, as a separate column: START for the first word after
-the skipped bytes, and 16 more for each further word. In a core file, a segment may begin at an
-offset that is not a multiple of 16: `readelf -lW` prints the Offset of each, for --skip, and its
-VirtAddr, for --at.
+the skipped bytes, and 16 more for each further word.
+
+With --elf, lists the words of each loaded segment (PT_LOAD) that an ELF64 file has bytes of, as --at
+does, in the order of its table and the byte order of its header: each 16 bytes at an address that is
+a multiple of 16. The file is first read into memory as a whole. For a file that is not ELF64, or has
+over 65534 segments, prints `error 1 syntax`; for one that ends before its segments do, the words
+that it has, and then `error 2 unfinished`. It excludes --bytes, --skip, --count, --at and --tags.
 
 With --holds, --perms or --unsealed, lists only words that could be capabilities, since raw memory has
 no tags: they are canonical, as 22 in 100 random words are, or a sentry that is once it is unsealed;

@@ -13,9 +13,12 @@ pub struct PoolTexts<'a> {
     pub length: &'a str,
 }
 
-/// The values of the options of `decode` that are numbers, names or a file, and whether `--unsealed` is given.
+/// The values of the options of `decode` that are numbers, names or a file, and whether `--elf` and `--unsealed` are
+/// given.
 #[derive(Clone, Copy)]
 pub struct DecodeValues<'a> {
+    /// Whether the input is an ELF file, whose segments are decoded.
+    pub elf: bool,
     /// The number of bytes to skip.
     pub skip: Option<u64>,
     /// The maximum number of words to decode.
@@ -129,9 +132,9 @@ pub enum Invocation<'a> {
         /// The trace's file; `None` and `-` are standard input.
         file: Option<&'a str>,
     },
-    /// `decode [--format FORMAT] [--bytes ORDER] [--skip N] [--count N] [--at START] [--holds ADDRESS] [--perms NAMES]
-    /// [--unsealed] [--tags FILE] [FILE]`: lists the content of each word of a text or of raw bytes, or of those that a
-    /// search finds or that are tagged.
+    /// `decode [--format FORMAT] [--bytes ORDER] [--elf] [--skip N] [--count N] [--at START] [--holds ADDRESS]
+    /// [--perms NAMES] [--unsealed] [--tags FILE] [FILE]`: lists the content of each word of a text, of raw bytes or of
+    /// a core file, or of those that a search finds or that are tagged.
     Decode {
         /// The form of the words in the input.
         input: InputForm,

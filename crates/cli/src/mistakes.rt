@@ -3,8 +3,8 @@ ghost use Rattle.std.specs.Prelude.{◌≡◌, IfOk};
 ghost use Rattle.clap.specs.Words.{kind_of};
 
 use crate::help::{
-    ADDRESS_FORM, DECODE_USAGE, EXPLAIN_CHOICE, EXPLAIN_USAGE, PERMISSIONS_FORM, ROUND_CHOICE,
-    ROUND_USAGE, SHOW_CHOICE, SHOW_USAGE, TAGS_CHOICE,
+    ADDRESS_FORM, DECODE_USAGE, ELF_CHOICE, EXPLAIN_CHOICE, EXPLAIN_USAGE, PERMISSIONS_FORM,
+    ROUND_CHOICE, ROUND_USAGE, SHOW_CHOICE, SHOW_USAGE, TAGS_CHOICE,
 };
 use crate::table::{Kind, Row, rows_named};
 use crate::values::{are_permissions, is_address, value_of};
@@ -37,7 +37,7 @@ fn mistake_of<'a>(
 {
     let message = match kind {
         ErrorKind::ValueValidation => value_message(alloc, values, rows_named(name))?,
-        _ => String::from_str(alloc, choice_message(name))?,
+        _ => String::from_str(alloc, choice_message(name, kind))?,
     };
     let mut command = Command::new(alloc, "cheri-cap").override_usage(usage(name));
     command.error(kind, message.as_str())
@@ -52,8 +52,9 @@ fn usage<'a>(name: &'a str) -> &'a str {
     }
 }
 
-fn choice_message<'a>(name: &str) -> &'a str {
+fn choice_message<'a>(name: &str, kind: ErrorKind) -> &'a str {
     match name {
+        "decode" if matches!(kind, ErrorKind::ArgumentConflict) => ELF_CHOICE,
         "explain" => EXPLAIN_CHOICE,
         "show" => SHOW_CHOICE,
         "decode" => TAGS_CHOICE,

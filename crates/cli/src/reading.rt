@@ -4,7 +4,7 @@ ghost use Rattle.clap.specs.Walk.{texts};
 ghost use Rattle.clap.specs.Words.{App, FailsBy, first_of, found_of, kind_of, rows_of, subcommand_of};
 ghost use Rattle.clap.specs.Words.{subcommand_rows_of};
 ghost use Rattle.cli.specs.Invocation.{HasChoice, HasFlag, HasItsTexts, HasLimit, HasPoolTexts, HasText, HasValues};
-ghost use Rattle.cli.specs.Invocation.{HasWanted, IsInvocation, IsProgram, align_named, choice_fault_in};
+ghost use Rattle.cli.specs.Invocation.{HasWanted, IsInvocation, IsProgram, align_named, choice_fault_in, has_raw};
 ghost use Rattle.cli.specs.Invocation.{choice_fault_of, command_name_of, faults_of, format_named, format_names};
 ghost use Rattle.cli.specs.Invocation.{input_named, is_taken, kinds_in, list_fault_of, named_fault, order_names};
 ghost use Rattle.cli.specs.Invocation.{search_fault_of, show_fault_of, summary_named, summary_names, value_fault};
@@ -129,11 +129,14 @@ fn show_fault(show: &ArgMatches<'_>) -> Option<ErrorKind>
     }
 }
 
-/// Returns the kind of error of the values of `decode`, if there is one: `--tags` requires `--bytes`, and numbers and
-/// permissions are of their form.
+/// Returns the kind of error of the values of `decode`, if there is one: `--elf` excludes the options of raw words,
+/// `--tags` requires `--bytes`, and numbers and permissions are of their form.
 fn search_fault(decode: &ArgMatches<'_>) -> Option<ErrorKind>
     ensures { result ≡ search_fault_of (rows_of (found_of decode.now)) }
 {
+    if is_on(decode, "elf") && has_raw(decode) {
+        return Some(ErrorKind::ArgumentConflict);
+    }
     if has_value(decode, "tags") && !has_value(decode, "bytes") {
         return Some(ErrorKind::MissingRequiredArgument);
     }
@@ -144,6 +147,17 @@ fn search_fault(decode: &ArgMatches<'_>) -> Option<ErrorKind>
             && is_address(decode, "holds")
             && are_permissions(decode, "perms"),
     )
+}
+
+/// Returns whether an option of raw words is given.
+fn has_raw(decode: &ArgMatches<'_>) -> bool
+    ensures { result ≡ has_raw (rows_of (found_of decode.now)) }
+{
+    has_value(decode, "bytes")
+        || has_value(decode, "skip")
+        || has_value(decode, "count")
+        || has_value(decode, "at")
+        || has_value(decode, "tags")
 }
 
 /// Returns the kind of error of a value that is not of its form.

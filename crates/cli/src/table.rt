@@ -317,6 +317,12 @@ const COMMANDS: &[CommandRow] = &[
                 topic: Topic::Bytes,
             },
             Row {
+                kind: Kind::Flag,
+                name: "elf",
+                placeholder: "",
+                topic: Topic::Elf,
+            },
+            Row {
                 kind: Kind::Address,
                 name: "skip",
                 placeholder: "N",

@@ -117,12 +117,14 @@ pub(crate) fn pool_texts<'a>(matches: &ArgMatches<'a>) -> PoolTexts<'a>
     }
 }
 
-/// Returns the values of the options of `decode` that are numbers, names or a file, and whether `--unsealed` is given.
+/// Returns the values of the options of `decode` that are numbers, names or a file, and whether `--elf` and
+/// `--unsealed` are given.
 pub(crate) fn decode_values<'a>(matches: &ArgMatches<'a>) -> DecodeValues<'a>
     requires { search_fault_of (rows_of (found_of matches.now)) ≡ None }
     ensures { HasDecodeValues (rows_of (found_of matches.now)) result }
 {
     DecodeValues {
+        elf: is_on(matches, "elf"),
         skip: address_of(matches, "skip"),
         count: address_of(matches, "count"),
         at: address_of(matches, "at"),

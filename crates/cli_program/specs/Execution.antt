@@ -21,9 +21,8 @@ use Rattle.cli.specs.declared.invocation.ReplayTexts.{ReplayTexts}
 use Rattle.cli.specs.declared.invocation.Invocation.TheVariants.{Annotate, Ask, Decode, Map, Plan, Replay, RoundList, Run}
 use Rattle.cli.specs.Devices.{Console, FromInput, Traffic}
 use Rattle.cli.specs.Input.{AreUnasked, file_input}
-use Rattle.cli_words.specs.Listing.{options_of, part_of}
 use Rattle.cli_words.specs.Questions.{has_hint}
-use Rattle.cli_words.specs.Tasks.{AnnotatesWords, AnswersQuestion, ListsInput, RoundsLengths}
+use Rattle.cli_words.specs.Tasks.{AnnotatesWords, AnswersQuestion, DecodesInput, RoundsLengths, TakesMemory}
 use Rattle.cli_scripts.specs.Report.{report_of}
 use Rattle.cli_scripts.specs.Runs.{DrawsRun, ReportsRun, StarvesRun}
 use Rattle.cli_scripts.specs.declared.report.Report.{Report}
@@ -122,8 +121,8 @@ effect_of replay terminals (Map limit pool align svg file) =
 effect_of replay terminals (Replay align strict texts file) = replay.effect align strict texts file
 effect_of replay terminals (Decode input format values file) = record {
   input = Some (record { input = file_input file; content = content.Words; tags = values.tags });
-  Does = ListsInput values.tags (file_input file) (part_of values) (options_of input format values);
-  Starves = λ console. IsSome values.tags × WritesNothing console;
+  Does = DecodesInput values.elf input format values (file_input file);
+  Starves = λ console. TakesMemory values × WritesNothing console;
   Reports = IsTrue terminals.errors;
 }
 effect_of replay terminals (Annotate file) = reads (file_input file) content.Words AnnotatesWords (λ console. ⊥) ⊥

@@ -21,8 +21,8 @@ use cli_words::{annotate_file, ask, decode_file, round_file};
 /// Requires: no device has failed.
 /// Errors: `Memory`, `Open`, `Read` and `Write`, each if and only if an allocation, the opening of the command's input,
 /// a read of it, or the sink failed. Memory is allocated by commands that create a machine or a heap, and for the tags
-/// of `decode`. Nothing is reported then. If the error is `Open`, or if it is `Memory` in `decode`, `map`, or `replay`
-/// without `--each` and `--script`, nothing was written to `sink` either.
+/// and the core file of `decode`. Nothing is reported then. If the error is `Open`, or if it is `Memory` in `decode`,
+/// `map`, or `replay` without `--each` and `--script`, nothing was written to `sink` either.
 pub fn execute<M: RunMemory + ReplayMemory, I: Inputs, W: Sink, E: Sink>(
     memory: &mut M,
     invocation: Invocation<'_>,
@@ -45,7 +45,8 @@ pub fn execute<M: RunMemory + ReplayMemory, I: Inputs, W: Sink, E: Sink>(
         (E.state errors.old) (E.state errors.new))) result }
     // If memory runs out in `run` or `plan`, nothing was written, or, with `--stats`, the whole
     // output; in `decode`, in `map`, and in `replay` without `--each` and `--script`, nothing. Only a
-    // command that creates a machine or a heap, or has a file of tags, runs out of memory.
+    // command that creates a machine or a heap, or reads a file of tags or a core file first, runs
+    // out of memory.
     ensures starved { result ≡ Err Fault.Memory → (effect_of M.command terminals invocation.entry).Starves
         (console_of (I.bytes_of inputs.old) (I.Opened.state source.new) (W.state sink.old) (W.state sink.new)
         (E.state errors.old) (E.state errors.new)) }

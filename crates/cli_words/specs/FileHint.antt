@@ -28,7 +28,7 @@ is_file_hinted Lines start = ends_in_cr start
 
 -- The hint on a file that is decoded in this form.
 abbrev pub hint_text : InputForm → List ℕ
-hint_text (Bytes order) = codes "hint: this is an ELF file, and its segments need not begin at multiples of 16: readelf -lW prints the Offset of each, for --skip\n"
+hint_text (Bytes order) = codes "hint: this is an ELF file: --elf in place of --bytes lists the words of its segments, each with its address\n"
 hint_text Lines = codes "hint: a line ends in CR: end lines in LF alone, as dos2unix does\n"
 
 -- The hint, or nothing if there is none.

@@ -1,4 +1,4 @@
-//! The hints on a file of words: in an ELF file, words need not be at multiples of 16, and lines end in LF alone.
+//! The hints on a file of words: the segments of an ELF file are listed by `--elf`, and lines end in LF alone.
 ghost use Rattle.std.specs.Prelude.{◌≡◌, IsTrue, drop, false};
 ghost use Rattle.std.specs.Io.KnownBytes.{Appends};
 ghost use Rattle.cli_words.specs.FileHint.{ends_in_cr, file_hint, hint_text, is_cr_lf, is_elf, is_file_hinted};
@@ -44,8 +44,8 @@ fn hint_text(form: InputForm) -> &'static [u8]
 {
     match form {
         InputForm::Bytes(_) => {
-            b"hint: this is an ELF file, and its segments need not begin at multiples of 16: \
-              readelf -lW prints the Offset of each, for --skip\n"
+            b"hint: this is an ELF file: --elf in place of --bytes lists the words of its segments, \
+              each with its address\n"
         }
         InputForm::Lines => b"hint: a line ends in CR: end lines in LF alone, as dos2unix does\n",
     }

@@ -49,7 +49,7 @@ fn tags_after<'a>(skipped: Option<u64>, bits: Option<&'a [u8]>) -> Option<Tags<'
 }
 
 /// Returns the search of `--holds`, `--perms` and `--unsealed`, or `None` if none is given.
-fn search_of(
+pub(crate) fn search_of(
     tagged: bool,
     holds: Option<u64>,
     perms: Option<Perms>,

@@ -3,25 +3,27 @@ ghost use Rattle.std.specs.Prelude.{◌≡◌, ◌≢◌, ◌↔◌, IfOk, IfSom
 ghost use Rattle.cli.specs.Devices.{FromInput, IsEnd, OnDevices, OnOutput, console_of};
 ghost use Rattle.cli.specs.Input.{AreUnasked, IsFile, OpensFile, file_input};
 ghost use Rattle.cli_words.specs.Listing.{options_of, part_of};
-ghost use Rattle.cli_words.specs.Tasks.{AnnotatesWords, ListsInput, ListsWords, RoundsLengths, SeesLengths};
+ghost use Rattle.cli_words.specs.Tasks.{AnnotatesWords, DecodesInput, ListsCoreFile, ListsWords, RoundsLengths};
+ghost use Rattle.cli_words.specs.Tasks.{SeesLengths, TakesMemory};
 
 use crate::file_hint::hint_file;
 use crate::length_list::round_list;
-use crate::listing::{options_of, part_of};
+use crate::listing::{options_of, part_of, search_of};
 use crate::number_hint::hint_list;
 use crate::questions::address_of;
-use cc_explain::{Format, InputForm, Options, Part, annotate, decode_words};
+use cc_explain::{Format, InputForm, Options, Part, Search, annotate, decode_core, decode_words};
 use cc_io::{Sink, Summary};
 use cli::{Base, Content, DecodeValues, Fault, InputName, Inputs, Memory, file_input};
 
 /// Writes a row for each listed word of the part of the input that FILE names, of the tagged ones if there is a file of
-/// tags, which is read first. Then writes the hint on an ELF file, or on lines that end in CR LF, to `errors`, if hints
-/// are given and a file was decoded from its first byte on.
+/// tags, which is read first, or of the segments of a core file, which is read as a whole. Then writes the hint on an
+/// ELF file, or on lines that end in CR LF, to `errors`, if hints are given and a file was decoded from its first byte
+/// on.
 ///
 /// Requires: no device has failed.
 /// Errors: `Open` if the input or the file of the tags cannot be opened, and nothing was written then; `Memory` if the
-/// tags do not fit in memory, and nothing was written then; `Read` if a read fails; `Write` if and only if the sink
-/// failed. No hint is written then.
+/// tags or the core file do not fit in memory, and nothing was written then; `Read` if a read fails; `Write` if and
+/// only if the sink failed. No hint is written then.
 pub fn decode_file<M: Memory, I: Inputs, W: Sink, E: Sink>(
     memory: &mut M,
     input: InputForm,
@@ -40,25 +42,36 @@ pub fn decode_file<M: Memory, I: Inputs, W: Sink, E: Sink>(
     requires sink { (W.state sink.old).has_failed ≡ false }
     requires errors { (E.state errors.old).has_failed ≡ false }
     ensures decodes { OnOutput (I.bytes_of inputs.old) (I.Opened.state source.new) (W.state sink.old) (W.state sink.new)
-        (ListsInput values.entry.tags (file_input file.entry) (part_of values.entry)
-        (options_of input format values.entry)) result }
+        (DecodesInput values.entry.elf input format values.entry (file_input file.entry)) result }
     ensures silent { ¬ IsTrue hints → errors.new ≡ errors.old }
     ensures unreported { OnErr result (errors.new ≡ errors.old) }
     ensures open { result ≡ Err Fault.Open → OpensFile values.entry.tags (file_input file.entry) }
     ensures allocates { (result ≡ Err Fault.Memory) ↔ (M.has_failed memory.new ≡ true) }
-    ensures starved { result ≡ Err Fault.Memory → IsSome values.entry.tags × (sink.new ≡ sink.old) }
+    ensures starved { result ≡ Err Fault.Memory → TakesMemory values.entry × (sink.new ≡ sink.old) }
     ensures asked { AreUnasked values.entry.tags (file_input file.entry) Content.Words (I.last_asked inputs.new)
         → (inputs.new ≡ inputs.old) × (source.new ≡ source.old) }
     ensures end { IsEnd (I.has_refused inputs.new) (I.Opened.state source.new) (W.state sink.old) (W.state sink.new)
         result }
 {
+    if values.elf {
+        let search = search_of(false, values.holds, values.perms, values.unsealed);
+        return list_core(
+            memory,
+            format,
+            search,
+            inputs,
+            source,
+            file_input(file),
+            sink,
+        );
+    }
     match values.tags {
         None => {
             list_file(
                 input, format, values, None, hints, inputs, source, file, sink, errors,
             )
         }
-        Some(path) => match read_tags(memory, path, inputs, source) {
+        Some(path) => match read_input(memory, InputName::File(path), inputs, source) {
             Ok(bits) => {
                 let bits = Some(bits.as_slice());
                 list_file(
@@ -70,26 +83,56 @@ pub fn decode_file<M: Memory, I: Inputs, W: Sink, E: Sink>(
     }
 }
 
-/// Reads the tags that a file has.
+/// Writes a row for each listed word of the core file that an input is.
+fn list_core<M: Memory, I: Inputs, W: Sink>(
+    memory: &mut M,
+    format: Format,
+    search: Option<Search>,
+    inputs: &mut I,
+    source: &mut I::Opened,
+    input: InputName<'_>,
+    sink: &mut W,
+) -> Result<Summary, Fault>
+    requires memory { M.has_failed memory.old ≡ false }
+    requires source { (I.Opened.state source.old).has_failed ≡ false }
+    requires inputs { I.has_refused inputs.old ≡ false }
+    requires sink { (W.state sink.old).has_failed ≡ false }
+    ensures lists { OnOutput (I.bytes_of inputs.old) (I.Opened.state source.new) (W.state sink.old) (W.state sink.new)
+        (ListsCoreFile input.entry format search) result }
+    ensures open { result ≡ Err Fault.Open → IsFile input.entry }
+    ensures allocates { (result ≡ Err Fault.Memory) ↔ (M.has_failed memory.new ≡ true) }
+    ensures starved { result ≡ Err Fault.Memory → sink.new ≡ sink.old }
+    ensures asked { I.last_asked inputs.new input.entry Content.Words ≡ false → (inputs.new ≡ inputs.old)
+        × (source.new ≡ source.old) }
+    ensures end { IsEnd (I.has_refused inputs.new) (I.Opened.state source.new) (W.state sink.old) (W.state sink.new)
+        result }
+{
+    match read_input(memory, input, inputs, source) {
+        Ok(bytes) => Ok(decode_core(bytes.as_slice(), format, search, sink)?),
+        Err(fault) => Err(fault),
+    }
+}
+
+/// Reads all bytes of an input.
 ///
 /// Errors: `Open`, `Read` and `Memory`, if the file cannot be opened, or a read of it or an allocation fails.
-fn read_tags<M: Memory, I: Inputs>(
+fn read_input<M: Memory, I: Inputs>(
     memory: &mut M,
-    path: &str,
+    input: InputName<'_>,
     inputs: &mut I,
     source: &mut I::Opened,
 ) -> Result<Vec<u8>, Fault>
     requires memory { M.has_failed memory.old ≡ false }
-    ensures reads { IfOk result (λ bits. IfSome (I.bytes_of inputs.old (InputName.File path.entry))
-        (λ bytes. bits.items ≡ bytes)) }
+    ensures reads { IfOk result (λ read. IfSome (I.bytes_of inputs.old input.entry) (λ bytes. read.items ≡ bytes)) }
     ensures kept { I.bytes_of inputs.new ≡ I.bytes_of inputs.old }
     ensures open { (result ≡ Err Fault.Open) ↔ (I.has_refused inputs.new ≡ true) }
+    ensures named { result ≡ Err Fault.Open → IsFile input.entry }
     ensures read { (result ≡ Err Fault.Read) ↔ ((I.Opened.state source.new).has_failed ≡ true) }
     ensures allocates { (result ≡ Err Fault.Memory) ↔ (M.has_failed memory.new ≡ true) }
     ensures unwritten { result ≢ Err Fault.Write }
-    ensures asked { I.last_asked inputs.new (InputName.File path.entry) Content.Words ≡ true }
+    ensures asked { I.last_asked inputs.new input.entry Content.Words ≡ true }
 {
-    match inputs.open(InputName::File(path), Content::Words, source) {
+    match inputs.open(input, Content::Words, source) {
         Ok(()) => memory.read_all(source),
         Err(fault) => Err(fault),
     }
