@@ -7,7 +7,7 @@ use cc_io::{Sink, Source, Summary};
 use cc_machine::Machine;
 use cc_values::Usage;
 use clap::Error;
-use cli::{Fault, GlobalMemory, Inputs, Invocation, Memory, ReplayTexts};
+use cli::{Fault, GlobalMemory, Inputs, Invocation, Memory, ReplayValues};
 use cli_program::ReplayMemory;
 use cli_replay::{TraceMemory, replay_file};
 use cli_scripts::{RunMemory, Session};
@@ -59,18 +59,14 @@ impl ReplayMemory for FullMemory {
 
     fn check_replay(
         &mut self,
-        align: Align,
-        strict: bool,
-        texts: ReplayTexts<'_>,
+        values: ReplayValues<'_>,
     ) -> Result<(), Error> {
-        self.memory.check_texts(align, strict, texts)
+        self.memory.check_texts(values)
     }
 
     fn replay_file<I: Inputs, W: Sink>(
         &mut self,
-        align: Align,
-        strict: bool,
-        texts: ReplayTexts<'_>,
+        values: ReplayValues<'_>,
         inputs: &mut I,
         source: &mut I::Opened,
         file: Option<&str>,
@@ -78,9 +74,7 @@ impl ReplayMemory for FullMemory {
     ) -> Result<Summary, Fault> {
         replay_file(
             &mut self.memory,
-            align,
-            strict,
-            texts,
+            values,
             inputs,
             source,
             file,

@@ -27,8 +27,8 @@ use Rattle.cc_io.specs.declared.input_form.InputForm.TheVariants.{Bytes, Lines}
 use Rattle.cc_io.specs.declared.format.Format.{Format}
 use Rattle.cc_io.specs.declared.format.Format.TheVariants.{Columns}
 use Rattle.cc_io.specs.declared.format.Format.TheVariants as format
-use Rattle.cli.specs.Invocation.{HasChoice, HasItsTexts, HasLimit, IsChosen, IsGiven, IsLimit, IsLimitText, choice_fault_in, align_named, decimal_value, format_named, format_names, program}
-use Rattle.cli.specs.Invocation.{slots_option, choice_option, input_named, order_names, HasFlag, flag_option, summary_named, summary_names}
+use Rattle.cli.specs.Invocation.{HasChoice, HasItsTexts, HasLimit, IsChosen, IsLimit, IsLimitText, choice_fault_in, align_named, decimal_value, format_named, format_names, program}
+use Rattle.cli.specs.Invocation.{slots_option, choice_option, input_named, order_names, flag_option, summary_named, summary_names}
 use Rattle.cli.specs.declared.invocation.SummaryFormat.{SummaryFormat}
 use Rattle.cli.specs.declared.invocation.SummaryFormat.TheVariants as summary
 use Rattle.cli.proofs.GivenLemmas.{GiveValues, GivesValue, IsTaken, flag_gives, level-given, level_parts, no_default-given, required_given, set_gives, taken}
@@ -228,37 +228,6 @@ other a b differ same =
     let bad : false ≡ true = sym differ ∙ equal in
     cc bad
 
--- ---- flags
-
-has_flag : (name : Text) (rows : List Row) → IsTaken (filled (flag_option name)) (first_of name rows) (one_of name rows) → HasFlag name rows
-has_flag name rows taken = let flag = go (first_of name rows) (one_of name rows) taken in record { read = flag.0; value = flag.1 }
-  where
-    either : (text : Text) (on off : Bool) → (on ≡ true → text ≡ codes "true") → (off ≡ true → text ≡ codes "false") → (on || off) ≡ true
-        → (text ≡ codes "true") ⊎ (text ≡ codes "false")
-    either text true off is_on is_off e = inl (is_on refl)
-    either text false true is_on is_off e = inr (is_off refl)
-    either text false false is_on is_off e = cc e
-
-    go : (given read : Option Text) → IsTaken (filled (flag_option name)) given read → (read ≡ given) × IfSome given (λ text. (text ≡ codes "true") ⊎ (text ≡ codes "false"))
-    go None read is = (is, tt)
-    go (Some text) read is = (
-      is.0,
-      either text (bytes_eq text (codes "true")) (bytes_eq text (codes "false")) (λ e. (bytes_eq-Decides text (codes "true")).0 e)
-          (λ e. (bytes_eq-Decides text (codes "false")).0 e) is.1,
-    )
-
--- The flag that `get_flag` reads.
-pub flag_read : (value : Option Text) (flag : Bool) → IfSome value (λ text. (text ≡ codes "true") ⊎ (text ≡ codes "false")) → (value ≡ None → flag ≡ false)
-    → (value ≡ Some (codes "true") → flag ≡ true) → (value ≡ Some (codes "false") → flag ≡ false) → IsGiven value flag
-flag_read None flag either none on off = (λ is. let no : true ≡ false = sym is ∙ none refl in cc no, λ is. cc is)
-flag_read (Some text) flag either none on off = elim either [
-  | inl is ↦ (λ _. ap Some is, λ _. on (ap Some is))
-  | inr is ↦ (
-    λ set. let no : true ≡ false = sym set ∙ off (ap Some is) in cc no,
-    λ given. let same : codes "true" ≡ codes "false" = cc (sym given ∙ ap Some is) in absurd (other (codes "true") (codes "false") refl same),
-  )
-]
-
 -- ---- the commands, as building leaves them
 
 module _ (aligns : Bor (List (Bor Text))) (are : texts aligns.now ≡ codes "1" ∷ codes "16" ∷ []) (formats : Bor (List (Bor Text))) (are_formats : texts formats.now ≡ format_names)
@@ -432,13 +401,6 @@ module _ (aligns : Bor (List (Bor Text))) (are : texts aligns.now ≡ codes "1" 
   Serves s = (words : List Text) → level_fault s [] nothing_held words false [] ≡ [] → choice_fault_in (Some (rows_at s words)) ≡ None
       → HasItsTexts (Some (rows_at s words))
 
-  -- The value of an option without a value.
-  flag_served : (s : Shape) (words : List Text) (name : Text) → GiveValues s.rules s.rules → arg_by_id s.rules name ≡ Some (filled (flag_option name))
-      → level_fault s [] nothing_held words false [] ≡ [] → HasFlag name (rows_after s.rules [] words)
-  flag_served s words name gives own e =
-      let rows = rows_after s.rules [] words in
-      has_flag name rows (taken s.rules name (filled (flag_option name)) rows (level-given s [] words false [] gives e) own)
-
   show_serves : Serves show
   show_serves words e choice =
       let rows = rows_after show.rules [] words in
@@ -467,7 +429,7 @@ module _ (aligns : Bor (List (Bor Text))) (are : texts aligns.now ≡ codes "1" 
   run_serves : Serves run
   run_serves words e choice =
       let rows = rows_after run.rules [] words in
-      (codes "run", rows, refl, (limit_served run words run_gives refl e, flag_served run words (codes "stats") run_gives refl e))
+      (codes "run", rows, refl, limit_served run words run_gives refl e)
 
   plan_serves : Serves plan
   plan_serves words e choice =
@@ -476,8 +438,7 @@ module _ (aligns : Bor (List (Bor Text))) (are : texts aligns.now ≡ codes "1" 
       let limit = limit_served plan words plan_gives refl e in
       let align = has_choice align_named (codes "align") (codes "1" ∷ codes "16" ∷ []) align_read aligns are rows
       (taken plan.rules (codes "align") (filled (choice_option (codes "align") aligns)) rows (level-given plan [] words false [] plan_gives e) refl) in
-      let stats = flag_served plan words (codes "stats") plan_gives refl e in
-      (codes "plan", rows, refl, ((wanted.1.1.1.0 refl, wanted.1.1.1.1.0 refl), limit, align, stats))
+      (codes "plan", rows, refl, ((wanted.1.1.1.0 refl, wanted.1.1.1.1.0 refl), limit, align))
 
   map_serves : Serves map
   map_serves words e choice =
@@ -486,18 +447,16 @@ module _ (aligns : Bor (List (Bor Text))) (are : texts aligns.now ≡ codes "1" 
       let limit = limit_served map words map_gives refl e in
       let align = has_choice align_named (codes "align") (codes "1" ∷ codes "16" ∷ []) align_read aligns are rows
       (taken map.rules (codes "align") (filled (choice_option (codes "align") aligns)) rows (level-given map [] words false [] map_gives e) refl) in
-      let svg = flag_served map words (codes "svg") map_gives refl e in
-      (codes "map", rows, refl, ((wanted.1.1.1.0 refl, wanted.1.1.1.1.0 refl), limit, align, svg))
+      (codes "map", rows, refl, ((wanted.1.1.1.0 refl, wanted.1.1.1.1.0 refl), limit, align))
 
   replay_serves : Serves replay
   replay_serves words e choice =
       let rows = rows_after replay.rules [] words in
       let align = has_choice align_named (codes "align") (codes "1" ∷ codes "16" ∷ []) align_read aligns are rows
       (taken replay.rules (codes "align") (filled (choice_option (codes "align") aligns)) rows (level-given replay [] words false [] replay_gives e) refl) in
-      let strict = flag_served replay words (codes "strict") replay_gives refl e in
       let told = has_choice summary_named (codes "summary") summary_names summary_read summaries are_summaries rows
       (taken replay.rules (codes "summary") (filled (choice_option (codes "summary") summaries)) rows (level-given replay [] words false [] replay_gives e) refl) in
-      (codes "replay", rows, refl, (align, strict, told))
+      (codes "replay", rows, refl, (align, told))
 
   decode_serves : Serves decode
   decode_serves words e choice =

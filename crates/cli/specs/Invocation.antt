@@ -18,7 +18,7 @@ use Rattle.cli.specs.declared.invocation.DecodeValues.{DecodeValues}
 use Rattle.cli.specs.declared.invocation.PoolTexts.{PoolTexts}
 use Rattle.cli.specs.declared.invocation.ReplayOutput.{ReplayOutput}
 use Rattle.cli.specs.declared.invocation.ReplayOutput.TheVariants.{Summary, Sizes, Chart, Script, Series}
-use Rattle.cli.specs.declared.invocation.ReplayTexts.{ReplayTexts}
+use Rattle.cli.specs.declared.invocation.ReplayValues.{ReplayValues}
 use Rattle.cli.specs.declared.invocation.SummaryFormat.{SummaryFormat}
 use Rattle.cli.specs.declared.invocation.SummaryFormat.TheVariants as summary
 use Rattle.cc_io.specs.declared.input_form.ByteOrder.TheVariants.{Little, Big}
@@ -84,10 +84,6 @@ summary_named text =
 abbrev pub input_named : Text → Option InputForm
 input_named text = if bytes_eq text (codes "little") then Some (Bytes Little) else if bytes_eq text (codes "big") then Some (Bytes Big) else None
 
--- `IsGiven` holds if `given` says whether the value of an option is `true`, which clap has for an option that was given.
-abbrev pub IsGiven : (value : Option Text) → Bool → Type 0
-IsGiven value given = IsTrue given ↔ (value ≡ Some (codes "true"))
-
 -- Whether the value of an option without one is `true`, which clap has if the option was given.
 abbrev pub is_on : (value : Option Text) → Bool
 is_on value = option_map_or (λ text. bytes_eq text (codes "true")) value false
@@ -112,7 +108,7 @@ command_name_of (Ask question) = question_command question
 command_name_of (Run limit stats file) = codes "run"
 command_name_of (Plan limit pool align stats file) = codes "plan"
 command_name_of (Map limit pool align svg file) = codes "map"
-command_name_of (Replay align strict texts file) = codes "replay"
+command_name_of (Replay values file) = codes "replay"
 command_name_of (Decode input format values file) = codes "decode"
 command_name_of (Annotate file) = codes "annotate"
 command_name_of (RoundList base file) = codes "round"
@@ -161,15 +157,17 @@ pub record HasOutput (rows : List Row) (output : Option ReplayOutput) : Type 0 w
       output
       ≡ replay_output format (is_on (first_of (codes "sizes") rows)) (is_on (first_of (codes "svg") rows)) (is_on (first_of (codes "script") rows)) each
 
--- `HasReplayTexts` holds if the texts are the values of these options, or `None` for those that are not given, and the options of
--- the output give it.
-pub record HasReplayTexts (rows : List Row) (texts : ReplayTexts) : Type 0 where
-  pub realloc : first_of (codes "realloc") rows ≡ option_map (λ text. text.now) texts.realloc
-  pub sweep : first_of (codes "sweep") rows ≡ option_map (λ text. text.now) texts.sweep
-  pub least : first_of (codes "min") rows ≡ option_map (λ text. text.now) texts.least
-  pub pool : first_of (codes "pool") rows ≡ option_map (λ text. text.now) texts.pool
-  pub format : first_of (codes "format") rows ≡ option_map (λ text. text.now) texts.format
-  pub output : HasOutput rows texts.output
+-- `HasReplayValues` holds if these options have these values, where a text is `None` if its option is not given, and the options of the
+-- output give it.
+pub record HasReplayValues (rows : List Row) (values : ReplayValues) : Type 0 where
+  pub align : IsChosen align_named One (first_of (codes "align") rows) values.align
+  pub strict : values.strict ≡ is_on (first_of (codes "strict") rows)
+  pub realloc : first_of (codes "realloc") rows ≡ option_map (λ text. text.now) values.realloc
+  pub sweep : first_of (codes "sweep") rows ≡ option_map (λ text. text.now) values.sweep
+  pub least : first_of (codes "min") rows ≡ option_map (λ text. text.now) values.least
+  pub pool : first_of (codes "pool") rows ≡ option_map (λ text. text.now) values.pool
+  pub format : first_of (codes "format") rows ≡ option_map (λ text. text.now) values.format
+  pub output : HasOutput rows values.output
 
 -- `IsBase` holds if the base has this text and its address.
 abbrev pub IsBase : Text → Base → Type 0
@@ -198,16 +196,14 @@ HasTexts rows (ExplainLength base size) =
 abbrev pub HasValues : List Row → Invocation → Type 0
 HasValues rows (Ask question) = HasTexts rows question
 HasValues rows (Run limit stats file) =
-    IsLimit (first_of (codes "slots") rows) limit × IsGiven (first_of (codes "stats") rows) stats × HasFile rows file
+    IsLimit (first_of (codes "slots") rows) limit × (stats ≡ is_on (first_of (codes "stats") rows)) × HasFile rows file
 HasValues rows (Plan limit pool align stats file) =
     IsLimit (first_of (codes "slots") rows) limit × IsChosen align_named One (first_of (codes "align") rows) align
-    × IsGiven (first_of (codes "stats") rows) stats × HasPool rows pool × HasFile rows file
+    × (stats ≡ is_on (first_of (codes "stats") rows)) × HasPool rows pool × HasFile rows file
 HasValues rows (Map limit pool align svg file) =
     IsLimit (first_of (codes "slots") rows) limit × IsChosen align_named One (first_of (codes "align") rows) align
-    × IsGiven (first_of (codes "svg") rows) svg × HasPool rows pool × HasFile rows file
-HasValues rows (Replay align strict texts file) =
-    IsChosen align_named One (first_of (codes "align") rows) align × IsGiven (first_of (codes "strict") rows) strict
-    × HasReplayTexts rows texts × HasFile rows file
+    × (svg ≡ is_on (first_of (codes "svg") rows)) × HasPool rows pool × HasFile rows file
+HasValues rows (Replay values file) = HasReplayValues rows values × HasFile rows file
 HasValues rows (Decode input format values file) =
     IsChosen format_named Columns (first_of (codes "format") rows) format
     × IsChosen input_named Lines (first_of (codes "bytes") rows) input × HasDecodeValues rows values × HasFile rows file
@@ -325,11 +321,6 @@ pub record HasLimit (rows : List Row) : Type 0 where
   pub read : one_of (codes "slots") rows ≡ first_of (codes "slots") rows
   pub limit : IfSome (first_of (codes "slots") rows) IsLimitText
 
--- `HasFlag` holds if clap has no value, `true` or `false` for this option, and it is read as it is written.
-pub record HasFlag (name : Text) (rows : List Row) : Type 0 where
-  pub read : one_of name rows ≡ first_of name rows
-  pub value : IfSome (first_of name rows) (λ text. (text ≡ codes "true") ⊎ (text ≡ codes "false"))
-
 -- `HasChoice` holds if the option has no value, or one that names a choice.
 abbrev pub HasChoice : {A : Type 0} → (named : Text → Option A) → (name : Text) → List Row → Type 0
 HasChoice named name rows = IfSome (first_of name rows) (λ text. IsSome (named text))
@@ -339,10 +330,10 @@ abbrev pub HasWanted : Text → List Row → Type 0
 HasWanted name rows =
     cond (bytes_eq name (codes "show")) (HasText (codes "word") rows × HasChoice format_named (codes "format") rows)
     (cond (bytes_eq name (codes "round")) (list_fault_of rows ≡ None)
-    (cond (bytes_eq name (codes "run")) (HasLimit rows × HasFlag (codes "stats") rows)
-    (cond (bytes_eq name (codes "plan")) (HasPoolTexts rows × HasLimit rows × HasChoice align_named (codes "align") rows × HasFlag (codes "stats") rows)
-    (cond (bytes_eq name (codes "map")) (HasPoolTexts rows × HasLimit rows × HasChoice align_named (codes "align") rows × HasFlag (codes "svg") rows)
-    (cond (bytes_eq name (codes "replay")) (HasChoice align_named (codes "align") rows × HasFlag (codes "strict") rows × HasChoice summary_named (codes "summary") rows)
+    (cond (bytes_eq name (codes "run")) (HasLimit rows)
+    (cond (bytes_eq name (codes "plan")) (HasPoolTexts rows × HasLimit rows × HasChoice align_named (codes "align") rows)
+    (cond (bytes_eq name (codes "map")) (HasPoolTexts rows × HasLimit rows × HasChoice align_named (codes "align") rows)
+    (cond (bytes_eq name (codes "replay")) (HasChoice align_named (codes "align") rows × HasChoice summary_named (codes "summary") rows)
     (cond (bytes_eq name (codes "decode")) (HasChoice format_named (codes "format") rows × HasChoice input_named (codes "bytes") rows × (search_fault_of rows ≡ None))
     (cond (bytes_eq name (codes "annotate")) ⊤
     (cond (bytes_eq name (codes "explain")) (choice_fault_of rows ≡ None) ⊥))))))))

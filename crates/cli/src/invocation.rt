@@ -61,10 +61,13 @@ pub enum ReplayOutput<'a> {
     Series(&'a str),
 }
 
-/// The values of the options of `replay` that are numbers, names, a policy or a pool, as they were typed, and its
-/// output.
+/// The values of the options of `replay`, and its output. Texts are as they were typed.
 #[derive(Clone, Copy)]
-pub struct ReplayTexts<'a> {
+pub struct ReplayValues<'a> {
+    /// The alignment of each object.
+    pub align: Align,
+    /// Whether no line is taken after one that is refused.
+    pub strict: bool,
     /// The effect of a realloc.
     pub realloc: Option<&'a str>,
     /// The policy.
@@ -123,12 +126,8 @@ pub enum Invocation<'a> {
     /// [--strict] [--summary FORMAT] [--each N] [--sizes] [--svg] [--script] [FILE]`: replays the trace of an
     /// allocator.
     Replay {
-        /// The alignment of each object.
-        align: Align,
-        /// Whether no line is taken after one that is refused.
-        strict: bool,
-        /// The values of the other options, as they were typed.
-        texts: ReplayTexts<'a>,
+        /// The values of the options.
+        values: ReplayValues<'a>,
         /// The trace's file; `None` and `-` are standard input.
         file: Option<&'a str>,
     },

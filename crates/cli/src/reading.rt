@@ -3,7 +3,7 @@ ghost use Rattle.std.specs.Prelude.{◌≡◌, ◌∷◌, [], IfErr, IfOk, None,
 ghost use Rattle.clap.specs.Walk.{texts};
 ghost use Rattle.clap.specs.Words.{App, FailsBy, first_of, found_of, kind_of, rows_of, subcommand_of};
 ghost use Rattle.clap.specs.Words.{subcommand_rows_of};
-ghost use Rattle.cli.specs.Invocation.{HasChoice, HasFlag, HasItsTexts, HasLimit, HasPoolTexts, HasText, HasValues};
+ghost use Rattle.cli.specs.Invocation.{HasChoice, HasItsTexts, HasLimit, HasPoolTexts, HasText, HasValues};
 ghost use Rattle.cli.specs.Invocation.{HasWanted, IsInvocation, IsProgram, align_named, choice_fault_in, has_raw};
 ghost use Rattle.cli.specs.Invocation.{choice_fault_of, command_name_of, faults_of, format_named, format_names};
 ghost use Rattle.cli.specs.Invocation.{input_named, is_taken, kinds_in, list_fault_of, named_fault, order_names};
@@ -15,8 +15,7 @@ use crate::mistakes::mistake;
 use crate::question::Question;
 use crate::values::{
     align_of, are_permissions, base_of, base_or_zero, decode_values, format_of, input_of,
-    is_address, is_given, is_on, limit_of, pool_texts, replay_texts, shown_format, value_of,
-    wanted_text,
+    is_address, is_on, limit_of, pool_texts, replay_values, shown_format, value_of, wanted_text,
 };
 use clap::error::ErrorKind;
 use clap::{ArgMatches, Error};
@@ -272,14 +271,13 @@ fn read_round<'a>(matches: &ArgMatches<'a>) -> Invocation<'a>
 }
 
 fn read_run<'a>(matches: &ArgMatches<'a>) -> Invocation<'a>
-    requires limit { HasLimit (rows_of (found_of matches.now)) }
-    requires stats { HasFlag (codes "stats") (rows_of (found_of matches.now)) }
+    requires { HasLimit (rows_of (found_of matches.now)) }
     ensures command { command_name_of result ≡ codes "run" }
     ensures values { HasValues (rows_of (found_of matches.now)) result }
 {
     Invocation::Run {
         limit: limit_of(matches),
-        stats: is_given(matches, "stats"),
+        stats: is_on(matches, "stats"),
         file: value_of(matches, "file"),
     }
 }
@@ -288,7 +286,6 @@ fn read_plan<'a>(matches: &ArgMatches<'a>) -> Invocation<'a>
     requires pool { HasPoolTexts (rows_of (found_of matches.now)) }
     requires limit { HasLimit (rows_of (found_of matches.now)) }
     requires align { HasChoice align_named (codes "align") (rows_of (found_of matches.now)) }
-    requires stats { HasFlag (codes "stats") (rows_of (found_of matches.now)) }
     ensures command { command_name_of result ≡ codes "plan" }
     ensures values { HasValues (rows_of (found_of matches.now)) result }
 {
@@ -296,7 +293,7 @@ fn read_plan<'a>(matches: &ArgMatches<'a>) -> Invocation<'a>
         limit: limit_of(matches),
         pool: pool_texts(matches),
         align: align_of(matches),
-        stats: is_given(matches, "stats"),
+        stats: is_on(matches, "stats"),
         file: value_of(matches, "file"),
     }
 }
@@ -305,7 +302,6 @@ fn read_map<'a>(matches: &ArgMatches<'a>) -> Invocation<'a>
     requires pool { HasPoolTexts (rows_of (found_of matches.now)) }
     requires limit { HasLimit (rows_of (found_of matches.now)) }
     requires align { HasChoice align_named (codes "align") (rows_of (found_of matches.now)) }
-    requires svg { HasFlag (codes "svg") (rows_of (found_of matches.now)) }
     ensures command { command_name_of result ≡ codes "map" }
     ensures values { HasValues (rows_of (found_of matches.now)) result }
 {
@@ -313,22 +309,19 @@ fn read_map<'a>(matches: &ArgMatches<'a>) -> Invocation<'a>
         limit: limit_of(matches),
         pool: pool_texts(matches),
         align: align_of(matches),
-        svg: is_given(matches, "svg"),
+        svg: is_on(matches, "svg"),
         file: value_of(matches, "file"),
     }
 }
 
 fn read_replay<'a>(matches: &ArgMatches<'a>) -> Invocation<'a>
     requires align { HasChoice align_named (codes "align") (rows_of (found_of matches.now)) }
-    requires strict { HasFlag (codes "strict") (rows_of (found_of matches.now)) }
     requires summary { HasChoice summary_named (codes "summary") (rows_of (found_of matches.now)) }
     ensures command { command_name_of result ≡ codes "replay" }
     ensures values { HasValues (rows_of (found_of matches.now)) result }
 {
     Invocation::Replay {
-        align: align_of(matches),
-        strict: is_given(matches, "strict"),
-        texts: replay_texts(matches),
+        values: replay_values(matches),
         file: value_of(matches, "file"),
     }
 }

@@ -2,12 +2,12 @@
 ghost use Rattle.std.specs.Prelude.{◌≡◌, None, Some, codes, true, option_map, unwrap_or};
 ghost use Rattle.clap.specs.Words.{first_of, found_of, rows_of};
 ghost use Rattle.cc_values.specs.Values.{address_in, permissions_in};
-ghost use Rattle.cli.specs.Invocation.{HasBase, HasChoice, HasDecodeValues, HasFlag, HasLimit, HasOutput, HasPool};
-ghost use Rattle.cli.specs.Invocation.{HasPoolTexts, HasReplayTexts, HasText, IsBase, IsChosen, IsGiven, IsLimit};
+ghost use Rattle.cli.specs.Invocation.{HasBase, HasChoice, HasDecodeValues, HasLimit, HasOutput, HasPool};
+ghost use Rattle.cli.specs.Invocation.{HasPoolTexts, HasReplayValues, HasText, IsBase, IsChosen, IsLimit};
 ghost use Rattle.cli.specs.Invocation.{IsRead, align_named, format_named, input_named, is_on, is_read};
 ghost use Rattle.cli.specs.Invocation.{search_fault_of, shown_format, summary_named};
 
-use crate::invocation::{DecodeValues, PoolTexts, ReplayOutput, ReplayTexts, SummaryFormat};
+use crate::invocation::{DecodeValues, PoolTexts, ReplayOutput, ReplayValues, SummaryFormat};
 use crate::question::Base;
 use cc_bounds::Align;
 use cc_io::{ByteOrder, Format, InputForm};
@@ -135,12 +135,15 @@ pub(crate) fn decode_values<'a>(matches: &ArgMatches<'a>) -> DecodeValues<'a>
     }
 }
 
-/// Returns the values of the options of `replay` that are numbers, names, a policy or a pool, and its output.
-pub(crate) fn replay_texts<'a>(matches: &ArgMatches<'a>) -> ReplayTexts<'a>
-    requires { HasChoice summary_named (codes "summary") (rows_of (found_of matches.now)) }
-    ensures { HasReplayTexts (rows_of (found_of matches.now)) result }
+/// Returns the values of the options of `replay`, and its output.
+pub(crate) fn replay_values<'a>(matches: &ArgMatches<'a>) -> ReplayValues<'a>
+    requires align { HasChoice align_named (codes "align") (rows_of (found_of matches.now)) }
+    requires summary { HasChoice summary_named (codes "summary") (rows_of (found_of matches.now)) }
+    ensures { HasReplayValues (rows_of (found_of matches.now)) result }
 {
-    ReplayTexts {
+    ReplayValues {
+        align: align_of(matches),
+        strict: is_on(matches, "strict"),
         realloc: value_of(matches, "realloc"),
         sweep: value_of(matches, "sweep"),
         least: value_of(matches, "min"),
@@ -171,14 +174,6 @@ fn output_of<'a>(matches: &ArgMatches<'a>) -> Option<ReplayOutput<'a>>
 }
 
 /// Returns whether an option without a value was given.
-pub(crate) fn is_given(matches: &ArgMatches<'_>, name: &str) -> bool
-    requires { HasFlag name.now (rows_of (found_of matches.now)) }
-    ensures { IsGiven (first_of name.now (rows_of (found_of matches.now))) result }
-{
-    matches.get_flag(name)
-}
-
-/// Returns whether an option without a value was given, for any matches.
 pub(crate) fn is_on(matches: &ArgMatches<'_>, name: &str) -> bool
     ensures { result ≡ is_on (first_of name.now (rows_of (found_of matches.now))) }
 {

@@ -59,7 +59,7 @@ script_effect P replay terminals (Plan limit pool align stats file) script is ho
     (report_of stats terminals, found.0, found.1)
 script_effect P replay terminals (Ask question) script is holds = absurd (cc is)
 script_effect P replay terminals (Map limit pool align svg file) script is holds = absurd (cc is)
-script_effect P replay terminals (Replay align strict texts file) script is holds = absurd (cc is)
+script_effect P replay terminals (Replay values file) script is holds = absurd (cc is)
 script_effect P replay terminals (Decode input format texts file) script is holds = absurd (cc is)
 script_effect P replay terminals (Annotate file) script is holds = absurd (cc is)
 script_effect P replay terminals (RoundList base file) script is holds = absurd (cc is)

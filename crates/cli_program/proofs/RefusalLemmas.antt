@@ -33,7 +33,7 @@ pub only_replay : (replay : ReplayCommand) (found : Option (Text × List Row)) �
 only_replay replay found told = go told.0 told.1 told.2
   where
     go : (invocation : Invocation) → IsInvocation found invocation → has_good_texts replay invocation ≡ false → FindsReplay found
-    go (Replay align strict texts file) is refused = (is.0, is.1)
+    go (Replay values file) is refused = (is.0, is.1)
     go (Ask question) is refused = cc refused
     go (Run limit stats file) is refused = cc refused
     go (Plan limit pool align stats file) is refused = cc refused

@@ -17,7 +17,7 @@ use Rattle.cli.specs.declared.input.Content.{Content}
 use Rattle.cli.specs.declared.input.Content.TheVariants as content
 use Rattle.cli.specs.declared.input.InputName.{InputName}
 use Rattle.cli.specs.declared.invocation.Invocation.{Invocation}
-use Rattle.cli.specs.declared.invocation.ReplayTexts.{ReplayTexts}
+use Rattle.cli.specs.declared.invocation.ReplayValues.{ReplayValues}
 use Rattle.cli.specs.declared.invocation.Invocation.TheVariants.{Annotate, Ask, Decode, Map, Plan, Replay, RoundList, Run}
 use Rattle.cli.specs.Devices.{Console, FromInput, Traffic}
 use Rattle.cli.specs.Input.{AreUnasked, file_input}
@@ -80,12 +80,12 @@ with_values (Err refusal) effect = refuses refusal
 
 -- The command `replay` of a program: whether its texts are accepted, and its effect.
 pub record ReplayCommand : Type 1 where
-  pub accepts : Align → (strict : Bool) → ReplayTexts → Bool
-  pub effect : Align → (strict : Bool) → ReplayTexts → Option (Bor Text) → Effect
+  pub accepts : ReplayValues → Bool
+  pub effect : ReplayValues → Option (Bor Text) → Effect
 
 -- The command `replay` of a program without it: no texts are accepted.
 abbrev pub no_replay : ReplayCommand
-no_replay = record { accepts = λ align strict texts. false; effect = λ align strict texts file. refuses Syntax }
+no_replay = record { accepts = λ values. false; effect = λ values file. refuses Syntax }
 
 -- The run of a script: the maximum number of slots, the operations of the opening, and the input that has the script.
 pub record Script : Type 0 where
@@ -118,7 +118,7 @@ effect_of replay terminals (Plan limit pool align stats file) =
 effect_of replay terminals (Map limit pool align svg file) =
     with_values (pool_of pool.base.now pool.length.now)
     (λ numbers. reads (file_input file) content.Pool (DrawsRun svg (plan_opening numbers.0 numbers.1 align) (initial_state limit)) WritesNothing ⊥)
-effect_of replay terminals (Replay align strict texts file) = replay.effect align strict texts file
+effect_of replay terminals (Replay values file) = replay.effect values file
 effect_of replay terminals (Decode input format values file) = record {
   input = Some (record { input = file_input file; content = content.Words; tags = values.tags });
   Does = DecodesInput values.elf input format values (file_input file);

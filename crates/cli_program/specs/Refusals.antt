@@ -9,7 +9,7 @@ use Rattle.cli_program.specs.Execution.{ReplayCommand}
 
 -- Whether the texts of the command are accepted, in a program with this `replay`.
 abbrev pub has_good_texts : ReplayCommand → Invocation → Bool
-has_good_texts replay (Replay align strict texts file) = replay.accepts align strict texts
+has_good_texts replay (Replay values file) = replay.accepts values
 has_good_texts replay _ = true
 
 -- FindsTexts holds if clap found a command whose texts are accepted, or are refused, as `good` says.

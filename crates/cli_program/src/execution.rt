@@ -15,7 +15,7 @@ use cli_words::{annotate_file, ask, decode_file, round_file};
 /// Executes a command: reads its input, writes its output to `sink`, and reports a run on `errors`. If standard error
 /// is a terminal, each command writes its hints there too.
 ///
-/// BASE and LENGTH of `plan` and `map` and the texts of `replay` are read first. If one is refused, the output is that
+/// BASE and LENGTH of `plan` and `map` and the values of `replay` are read first. If one is refused, the output is that
 /// refusal, and nothing is read. The machine or the heap is created next, and then the input is opened.
 ///
 /// Requires: no device has failed.
@@ -89,12 +89,9 @@ pub fn execute<M: RunMemory + ReplayMemory, I: Inputs, W: Sink, E: Sink>(
             svg,
             file,
         } => map_file(memory, limit, pool, align, svg, inputs, source, file, sink),
-        Invocation::Replay {
-            align,
-            strict,
-            texts,
-            file,
-        } => memory.replay_file(align, strict, texts, inputs, source, file, sink),
+        Invocation::Replay { values, file } => {
+            memory.replay_file(values, inputs, source, file, sink)
+        }
         Invocation::Decode {
             input,
             format,

@@ -246,12 +246,7 @@ fn check_invocation<M: ReplayMemory>(
         (λ error. (kind_of error ≡ ErrorKind.OutOfMemory) ↔ (M.has_failed memory.new ≡ true)) }
 {
     match invocation {
-        Invocation::Replay {
-            align,
-            strict,
-            texts,
-            ..
-        } => memory.check_replay(align, strict, texts),
+        Invocation::Replay { values, .. } => memory.check_replay(values),
         _ => Ok(()),
     }
 }

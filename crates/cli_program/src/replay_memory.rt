@@ -12,24 +12,22 @@ use cc_io::{Sink, Summary, write_refusal};
 use cc_word::Refusal;
 use clap::error::ErrorKind;
 use clap::{Command, Error};
-use cli::{Fault, GlobalMemory, Inputs, Memory, ReplayTexts};
+use cli::{Fault, GlobalMemory, Inputs, Memory, ReplayValues};
 use std::alloc::{AllocError, Global};
 
 /// The memory for `replay`, in a program that has this command or refuses it.
 pub trait ReplayMemory: Memory {
-    // The command: whether its texts are accepted, and its effect.
+    // The command: whether its values are accepted, and its effect.
     ghost command: { ReplayCommand };
 
-    /// Checks the texts of `replay`, before its trace is read.
+    /// Checks the values of `replay`, before its trace is read.
     ///
     /// Errors: `ValueValidation` if a text is refused, or the program is one without `replay`; an allocation fails.
     fn check_replay(
         &mut self,
-        align: Align,
-        strict: bool,
-        texts: ReplayTexts<'_>,
+        values: ReplayValues<'_>,
     ) -> Result<(), Error>
-        ensures kinds { FailsBy (kinds_in (value_fault (command.accepts align strict texts.entry))) result }
+        ensures kinds { FailsBy (kinds_in (value_fault (command.accepts values.entry))) result }
         ensures fails { MatchResult result (λ checked. Self.has_failed self.new ≡ false)
             (λ error. (kind_of error ≡ ErrorKind.OutOfMemory) ↔ (Self.has_failed self.new ≡ true)) };
 
@@ -39,9 +37,7 @@ pub trait ReplayMemory: Memory {
     /// Errors: as the command's effect says.
     fn replay_file<I: Inputs, W: Sink>(
         &mut self,
-        align: Align,
-        strict: bool,
-        texts: ReplayTexts<'_>,
+        values: ReplayValues<'_>,
         inputs: &mut I,
         source: &mut I::Opened,
         file: Option<&str>,
@@ -52,16 +48,16 @@ pub trait ReplayMemory: Memory {
         requires inputs { I.has_refused inputs.old ≡ false }
         requires sink { (W.state sink.old).has_failed ≡ false }
         ensures executes { OnOutput (I.bytes_of inputs.old) (I.Opened.state source.new) (W.state sink.old)
-            (W.state sink.new) (command.effect align strict texts.entry file.entry).Does result }
+            (W.state sink.new) (command.effect values.entry file.entry).Does result }
         ensures starved { result ≡ Err Fault.Memory → (errors errors_now : OutputState)
-            → (command.effect align strict texts.entry file.entry).Starves
+            → (command.effect values.entry file.entry).Starves
             (console_of (I.bytes_of inputs.old) (I.Opened.state source.new) (W.state sink.old) (W.state sink.new)
             errors errors_now) }
         ensures allocates { (result ≡ Err Fault.Memory) ↔ (Self.has_failed self.new ≡ true) }
         ensures open { result ≡ Err Fault.Open
-            → IfSome (command.effect align strict texts.entry file.entry).input
+            → IfSome (command.effect values.entry file.entry).input
             (λ asked. OpensFile asked.tags asked.input) }
-        ensures asked { IsUnasked (command.effect align strict texts.entry file.entry).input (I.last_asked inputs.new)
+        ensures asked { IsUnasked (command.effect values.entry file.entry).input (I.last_asked inputs.new)
             → (inputs.new ≡ inputs.old) × (source.new ≡ source.old) }
         ensures end { IsEnd (I.has_refused inputs.new) (I.Opened.state source.new) (W.state sink.old)
             (W.state sink.new) result };
@@ -73,9 +69,7 @@ impl ReplayMemory for GlobalMemory {
 
     fn check_replay(
         &mut self,
-        _align: Align,
-        _strict: bool,
-        _texts: ReplayTexts<'_>,
+        _values: ReplayValues<'_>,
     ) -> Result<(), Error> {
         let error = match without_replay(self.alloc) {
             Ok(error) => error,
@@ -87,9 +81,7 @@ impl ReplayMemory for GlobalMemory {
 
     fn replay_file<I: Inputs, W: Sink>(
         &mut self,
-        _align: Align,
-        _strict: bool,
-        _texts: ReplayTexts<'_>,
+        _values: ReplayValues<'_>,
         _inputs: &mut I,
         _source: &mut I::Opened,
         _file: Option<&str>,

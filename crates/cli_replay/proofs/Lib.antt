@@ -1,3 +1,3 @@
-mod ReplayTextsLemmas
+mod ReplayValuesLemmas
 mod OutputLemmas
 mod ReplayingLemmas

@@ -22,23 +22,23 @@ use Rattle.cli.specs.declared.fault.Fault.{Fault}
 use Rattle.cli.specs.declared.input.InputName.{InputName}
 use Rattle.cli.specs.declared.invocation.ReplayOutput.{ReplayOutput}
 use Rattle.cli.specs.declared.invocation.ReplayOutput.TheVariants as output
-use Rattle.cli.specs.declared.invocation.ReplayTexts.{ReplayTexts}
+use Rattle.cli.specs.declared.invocation.ReplayValues.{ReplayValues}
 use Rattle.cli.specs.declared.invocation.SummaryFormat.{SummaryFormat}
 use Rattle.cli.proofs.DeviceLemmas.{on_devices-map}
 use Rattle.cli_replay.specs.Charting.{begun_chart, charted_text}
 use Rattle.cli_replay.specs.Outputs.{Samples, Scripts, SumsUp}
-use Rattle.cli_replay.specs.ReplayTexts.{replay_in}
+use Rattle.cli_replay.specs.ReplayValues.{replay_in}
 use Rattle.cli_replay.specs.Replaying.{Charts, GroupReplays, Replays, ReplaysTrace, WithReplay, Writes, group_text, replay_text}
 
--- The replay that the texts ask for, from that of these settings.
-pub with_replay : (align : Align) (strict : Bool) (texts : ReplayTexts) (file : Option (Bor Text)) (console : Console) (source : InputState)
-    (found : ReplayOutput × (Settings × (Reading × List Policy))) (input : InputName) (result : Result Summary Fault) → replay_in align strict texts ≡ Ok found → input ≡ file_input file
+-- The replay that the values ask for, from that of these settings.
+pub with_replay : (values : ReplayValues) (file : Option (Bor Text)) (console : Console) (source : InputState)
+    (found : ReplayOutput × (Settings × (Reading × List Policy))) (input : InputName) (result : Result Summary Fault) → replay_in values ≡ Ok found → input ≡ file_input file
     → IfSome (console.input input) (λ bytes. source.unread ≡ Some bytes)
     → OnDevices (ReplaysTrace found.0 found.1.0 found.1.1 (traffic_of console source)) result
-    → OnDevices (WithReplay align strict texts console (λ output settings plan. FromInput (file_input file) console (ReplaysTrace output settings plan))) result
-with_replay align strict texts file console source found input result is_found is_input known holds =
+    → OnDevices (WithReplay values console (λ output settings plan. FromInput (file_input file) console (ReplaysTrace output settings plan))) result
+with_replay values file console source found input result is_found is_input known holds =
     on_devices-map (ReplaysTrace found.0 found.1.0 found.1.1 (traffic_of console source))
-    (WithReplay align strict texts console (λ output settings plan. FromInput (file_input file) console (ReplaysTrace output settings plan)))
+    (WithReplay values console (λ output settings plan. FromInput (file_input file) console (ReplaysTrace output settings plan)))
     (λ io done.
     subst (λ (given : Result (ReplayOutput × (Settings × (Reading × List Policy))) Refusal). MatchResult given
     (λ found. FromInput (file_input file) console (ReplaysTrace found.0 found.1.0 found.1.1) io)

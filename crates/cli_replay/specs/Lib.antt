@@ -1,5 +1,5 @@
 -- In reading order.
-pub mod ReplayTexts
+pub mod ReplayValues
 pub mod Settings
 pub mod Charting
 pub mod Outputs

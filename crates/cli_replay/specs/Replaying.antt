@@ -20,13 +20,13 @@ use Rattle.cc_replay.specs.declared.table.Format.{Format}
 use Rattle.cc_replay.specs.declared.table.Format.TheVariants.{Text, Csv, Json}
 use Rattle.cli.specs.declared.invocation.ReplayOutput.{ReplayOutput}
 use Rattle.cli.specs.declared.invocation.ReplayOutput.TheVariants as output
-use Rattle.cli.specs.declared.invocation.ReplayTexts.{ReplayTexts}
+use Rattle.cli.specs.declared.invocation.ReplayValues.{ReplayValues}
 use Rattle.cli.specs.declared.invocation.SummaryFormat.{SummaryFormat}
 use Rattle.cli.specs.declared.invocation.SummaryFormat.TheVariants as summary
 use Rattle.cli.specs.Devices.{Console, Traffic}
 use Rattle.cli_replay.specs.Charting.{Charted, ChartsLine, ChartsRest, begun_chart, charted_text}
 use Rattle.cli_replay.specs.Outputs.{Samples, Scripts, SumsUp, Taking}
-use Rattle.cli_replay.specs.ReplayTexts.{replay_in}
+use Rattle.cli_replay.specs.ReplayValues.{replay_in}
 use Rattle.cc_io.specs.CommandOutput.{WritesRefusal}
 
 -- The format of a table.
@@ -91,9 +91,9 @@ IsStreaming (Some output.Script) = ⊤
 IsStreaming (Some (output.Series text)) = ⊤
 IsStreaming _ = ⊥
 
--- WithReplay holds if `Does` holds for the output, the settings and the reading of a replay, or if one of their texts is refused.
-abbrev pub WithReplay : Align → (strict : Bool) → ReplayTexts → Console → (Does : ReplayOutput → Settings → Reading × List Policy → Result Summary IoError → Type 0)
+-- WithReplay holds if `Does` holds for the output, the settings and the reading of a replay, or if one of their values is refused.
+abbrev pub WithReplay : ReplayValues → Console → (Does : ReplayOutput → Settings → Reading × List Policy → Result Summary IoError → Type 0)
     → Result Summary IoError → Type 0
-WithReplay align strict texts console Does result =
-    MatchResult (replay_in align strict texts) (λ found. Does found.0 found.1.0 found.1.1 result)
+WithReplay values console Does result =
+    MatchResult (replay_in values) (λ found. Does found.0 found.1.0 found.1.1 result)
     (λ refusal. WritesRefusal console.output console.output_now refusal result)

@@ -4,7 +4,7 @@
 mod charting;
 mod memory;
 mod mistakes;
-mod replay_texts;
+mod replay_values;
 mod replaying;
 mod takers;
 

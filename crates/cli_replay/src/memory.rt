@@ -4,7 +4,7 @@ ghost use Rattle.std.specs.Prelude.{true};
 ghost use Rattle.clap.specs.Words.{FailsBy, kind_of};
 ghost use Rattle.cc_io.specs.Devices.{IsOutcome};
 ghost use Rattle.cli.specs.Invocation.{kinds_in, value_fault};
-ghost use Rattle.cli_replay.specs.ReplayTexts.{replay_in};
+ghost use Rattle.cli_replay.specs.ReplayValues.{replay_in};
 
 use crate::mistakes::check_texts;
 use crate::takers::TraceTaker;
@@ -13,24 +13,22 @@ use cc_io::{IoError, Sink, Source, Summary};
 use cc_replay::{Policy, Reading, Settings};
 use clap::Error;
 use clap::error::ErrorKind;
-use cli::{GlobalMemory, Memory, ReplayTexts};
+use cli::{GlobalMemory, Memory, ReplayValues};
 use std::alloc::AllocError;
 
 /// The memory for the heap of a trace, which grows while lines are taken.
 ///
 /// It has no parameter, so that no caller can bring one whose allocations always fail.
 pub trait TraceMemory: Memory {
-    /// Checks the texts of `replay`, before its trace is read.
+    /// Checks the values of `replay`, before its trace is read.
     ///
     /// Errors: `ValueValidation` if a text is refused, with a message that names the option and its forms; an
     /// allocation fails.
     fn check_texts(
         &mut self,
-        align: Align,
-        strict: bool,
-        texts: ReplayTexts<'_>,
+        values: ReplayValues<'_>,
     ) -> Result<(), Error>
-        ensures kinds { FailsBy (kinds_in (value_fault (is_ok (replay_in align strict texts.entry)))) result }
+        ensures kinds { FailsBy (kinds_in (value_fault (is_ok (replay_in values.entry)))) result }
         ensures fails { MatchResult result (λ checked. Self.has_failed self.new ≡ false)
             (λ error. (kind_of error ≡ ErrorKind.OutOfMemory) ↔ (Self.has_failed self.new ≡ true)) };
 
@@ -71,11 +69,9 @@ pub trait TraceMemory: Memory {
 impl TraceMemory for GlobalMemory {
     fn check_texts(
         &mut self,
-        align: Align,
-        strict: bool,
-        texts: ReplayTexts<'_>,
+        values: ReplayValues<'_>,
     ) -> Result<(), Error> {
-        let checked = check_texts(self.alloc, align, strict, texts);
+        let checked = check_texts(self.alloc, values);
         self.has_failed = match &checked {
             Ok(()) => false,
             Err(error) => matches!(error.kind(), ErrorKind::OutOfMemory),

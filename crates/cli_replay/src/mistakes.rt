@@ -1,16 +1,16 @@
-//! The errors of texts of `replay` that are refused, as errors of clap's.
+//! The errors of values of `replay` that are refused, as errors of clap's.
 ghost use Rattle.std.specs.Prelude.{◌≡◌, IfOk, is_ok};
 ghost use Rattle.clap.specs.Words.{FailsBy, kind_of};
 ghost use Rattle.cli.specs.Invocation.{kinds_in, value_fault};
-ghost use Rattle.cli_replay.specs.ReplayTexts.{replay_in};
+ghost use Rattle.cli_replay.specs.ReplayValues.{replay_in};
 
-use crate::replay_texts::{
+use crate::replay_values::{
     format_of, least_of, others_of, output_of, policy_of, pool_of, realloc_of, replay_of,
 };
 use cc_bounds::Align;
 use clap::error::ErrorKind;
 use clap::{Command, Error};
-use cli::{ReplayOutput, ReplayTexts, SummaryFormat};
+use cli::{ReplayOutput, ReplayValues, SummaryFormat};
 use std::alloc::{AllocError, Global};
 
 const USAGE: &str = "cheri-cap replay [OPTIONS] [FILE]";
@@ -28,72 +28,70 @@ struct WrongValue<'a> {
 /// Errors: they are not, or an allocation fails.
 pub(crate) fn check_texts(
     alloc: Global,
-    align: Align,
-    strict: bool,
-    texts: ReplayTexts<'_>,
+    values: ReplayValues<'_>,
 ) -> Result<(), Error>
-    ensures { FailsBy (kinds_in (value_fault (is_ok (replay_in align strict texts.entry)))) result }
+    ensures { FailsBy (kinds_in (value_fault (is_ok (replay_in values.entry)))) result }
 {
-    match replay_of(align, strict, texts) {
+    match replay_of(values) {
         Ok(_) => Ok(()),
-        Err(_) => Err(mistake(alloc, texts)?),
+        Err(_) => Err(mistake(alloc, values)?),
     }
 }
 
 /// Returns the error that names the first option whose text is refused, and its forms.
-fn mistake(alloc: Global, texts: ReplayTexts<'_>) -> Result<Error, AllocError>
+fn mistake(alloc: Global, values: ReplayValues<'_>) -> Result<Error, AllocError>
     ensures { IfOk result (λ error. kind_of error ≡ ErrorKind.ValueValidation) }
 {
-    let message = message_of(alloc, texts)?;
+    let message = message_of(alloc, values)?;
     let mut command = Command::new(alloc, "cheri-cap").override_usage(USAGE);
     command.error(ErrorKind::ValueValidation, message.as_str())
 }
 
-fn message_of(alloc: Global, texts: ReplayTexts<'_>) -> Result<String, AllocError> {
-    match wrong_value(texts) {
+fn message_of(alloc: Global, values: ReplayValues<'_>) -> Result<String, AllocError> {
+    match wrong_value(values) {
         Some(wrong) => {
             let (value, option, form) = (wrong.value, wrong.option, wrong.form);
             format!(in alloc; "invalid value '{value}' for '--{option}': {form}")
         }
-        None => String::from_str(alloc, wrong_choice(texts)),
+        None => String::from_str(alloc, wrong_choice(values)),
     }
 }
 
 /// Returns the first value that is not of its form.
-fn wrong_value<'a>(texts: ReplayTexts<'a>) -> Option<WrongValue<'a>> {
+fn wrong_value<'a>(values: ReplayValues<'a>) -> Option<WrongValue<'a>> {
     let summary = Some(ReplayOutput::Summary(SummaryFormat::Text));
-    let each = match texts.output {
+    let each = match values.output {
         Some(ReplayOutput::Series(each)) => Some(each),
         _ => None,
     };
-    if format_of(texts.format).is_err() {
+    if format_of(values.format).is_err() {
         wrong(
-            texts.format,
+            values.format,
             "format <FORMAT>",
             "want own, mtrace, heaptrack or ltrace",
         )
-    } else if realloc_of(None, texts.realloc).is_err() {
-        wrong(texts.realloc, "realloc <MODE>", "want move or keep")
-    } else if policy_of(texts.sweep).is_err() || others_of(summary, texts.sweep).is_err() {
+    } else if realloc_of(None, values.realloc).is_err() {
+        wrong(values.realloc, "realloc <MODE>", "want move or keep")
+    } else if policy_of(values.sweep).is_err() || others_of(summary, values.sweep).is_err() {
         wrong(
-            texts.sweep,
+            values.sweep,
             "sweep <POLICY>",
             "want none, never, trace, N%, N%:live, N%:high, bytes:N or frees:N, or up to 8 of these \
              with commas between",
         )
-    } else if least_of(texts.least).is_err() {
+    } else if least_of(values.least).is_err() {
         wrong(
-            texts.least,
+            values.least,
             "min <BYTES>",
             "want a number below 2^64: decimal digits, or 0x and hexadecimal digits",
         )
-    } else if pool_of(texts.pool).is_err() {
+    } else if pool_of(values.pool).is_err() {
         wrong(
-            texts.pool,
+            values.pool,
             "pool <BASE:LENGTH>",
             "want an address, a colon and a length, which together are at most 2^64",
         )
-    } else if each.is_some() && output_of(texts.output).is_err() {
+    } else if each.is_some() && output_of(values.output).is_err() {
         wrong(
             each,
             "each <N>",
@@ -116,10 +114,10 @@ fn wrong<'a>(value: Option<&'a str>, option: &'a str, form: &'a str) -> Option<W
 }
 
 /// Returns the message for values that do not go together.
-fn wrong_choice<'a>(texts: ReplayTexts<'_>) -> &'a str {
-    if texts.output.is_none() {
+fn wrong_choice<'a>(values: ReplayValues<'_>) -> &'a str {
+    if values.output.is_none() {
         "give at most one of `--sizes`, `--svg`, `--script` and `--each N`"
-    } else if others_of(texts.output, texts.sweep).is_err() {
+    } else if others_of(values.output, values.sweep).is_err() {
         "give one policy to `--sweep` with `--sizes`, `--svg`, `--script` or `--each N`"
     } else {
         "`--script` cannot be used with `--realloc keep`"

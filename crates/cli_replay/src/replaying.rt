@@ -5,28 +5,28 @@ ghost use Rattle.cli.specs.Devices.{FromInput, IsEnd, OnOutput};
 ghost use Rattle.cli.specs.Input.{IsFile, file_input, trace_content};
 ghost use Rattle.cli.specs.declared.invocation.ReplayOutput.TheVariants.{Script as ScriptOutput};
 ghost use Rattle.cli_replay.specs.Outputs.{OnStreams, Samples, Scripts, SumsUp};
-ghost use Rattle.cli_replay.specs.ReplayTexts.{replay_in};
+ghost use Rattle.cli_replay.specs.ReplayValues.{replay_in};
 ghost use Rattle.cli_replay.specs.Replaying.{IsStreaming, ReplaysTrace, WithReplay};
 ghost use Rattle.cli_replay.specs.Settings.{IsForHeap};
 
 use crate::charting::Charting;
 use crate::memory::TraceMemory;
-use crate::replay_texts::replay_of;
+use crate::replay_values::replay_of;
 use crate::takers::{TracePrinter, TraceTaker};
 use cc_bounds::Align;
 use cc_machine::GapPlacer;
 use cc_io::{Sink, Source, Summary, write_refusal};
 use cc_replay::{Policy, Reading, Replay, ReplayGroup, Script, Settings};
-use cli::{Content, Discard, Fault, Inputs, ReplayOutput, ReplayTexts, file_input};
+use cli::{Content, Discard, Fault, Inputs, ReplayOutput, ReplayValues, file_input};
 
 /// Replays the trace that FILE names on a heap with exact bounds, and writes its output: the summary, or in
 /// place of it the table of sizes (`--sizes`), the chart (`--svg`), the script (`--script`) or the series
 /// (`--each`). Two of these together are refused. With several policies the output is the table of their
 /// summaries, from one reading of the trace.
 ///
-/// The texts are read first. If one is refused, the output is that refusal, and nothing is read.
+/// The values are read first. If one is refused, the output is that refusal, and nothing is read.
 ///
-/// The summary of the result has an error if a line of the trace is refused. With `strict`, nothing is read
+/// The summary of the result has an error if a line of the trace is refused. With `--strict`, nothing is read
 /// after the chunk of the first refused line, and in any case nothing after the chunk in which a script ends or
 /// an allocation fails: no clause says so, and `tests/program` shows it.
 ///
@@ -36,9 +36,7 @@ use cli::{Content, Discard, Fault, Inputs, ReplayOutput, ReplayTexts, file_input
 /// only if the sink failed.
 pub fn replay_file<M: TraceMemory, I: Inputs, W: Sink>(
     memory: &mut M,
-    align: Align,
-    strict: bool,
-    texts: ReplayTexts<'_>,
+    values: ReplayValues<'_>,
     inputs: &mut I,
     source: &mut I::Opened,
     file: Option<&str>,
@@ -49,22 +47,22 @@ pub fn replay_file<M: TraceMemory, I: Inputs, W: Sink>(
     requires inputs { I.has_refused inputs.old ≡ false }
     requires sink { (W.state sink.old).has_failed ≡ false }
     ensures replays { OnOutput (I.bytes_of inputs.old) (I.Opened.state source.new) (W.state sink.old) (W.state sink.new)
-        (λ console. WithReplay align strict texts.entry console
+        (λ console. WithReplay values.entry console
         (λ output settings plan. FromInput (file_input file.entry) console
         (ReplaysTrace output settings plan))) result }
-    ensures memory { result ≡ Err Fault.Memory → IsOk (replay_in align strict texts.entry) }
+    ensures memory { result ≡ Err Fault.Memory → IsOk (replay_in values.entry) }
     ensures open { result ≡ Err Fault.Open → IsFile (file_input file.entry) }
-    ensures starved { ¬ IsStreaming texts.entry.output → result ≡ Err Fault.Memory
+    ensures starved { ¬ IsStreaming values.entry.output → result ≡ Err Fault.Memory
         → (W.state sink.new).taken ≡ (W.state sink.old).taken }
-    ensures asked { I.last_asked inputs.new (file_input file.entry) (trace_content texts.entry.output) ≡ false
+    ensures asked { I.last_asked inputs.new (file_input file.entry) (trace_content values.entry.output) ≡ false
         → (inputs.new ≡ inputs.old) × (source.new ≡ source.old) }
-    ensures unused { ¬ IsOk (replay_in align strict texts.entry) → (inputs.new ≡ inputs.old)
+    ensures unused { ¬ IsOk (replay_in values.entry) → (inputs.new ≡ inputs.old)
         × (source.new ≡ source.old) }
     ensures allocates { (result ≡ Err Fault.Memory) ↔ (M.has_failed memory.new ≡ true) }
     ensures end { IsEnd (I.has_refused inputs.new) (I.Opened.state source.new) (W.state sink.old) (W.state sink.new)
         result }
 {
-    match replay_of(align, strict, texts) {
+    match replay_of(values) {
         Ok((output, (settings, (reading, others)))) => {
             inputs.open(file_input(file), content_of(output), source)?;
             replay_source(

@@ -21,8 +21,7 @@ returns-in-round c = record { command = c.read_round.ensures.command ∙ sym c.i
 
 pub read_run-requires : goal.read_run-requires
 read_run-requires c =
-    let wanted = subst (λ (name : Text). HasWanted name (rows_of (found_of c.args.matches.now))) c.in-run.is c.requires in
-    record { limit = wanted.0; stats = wanted.1 }
+    subst (λ (name : Text). HasWanted name (rows_of (found_of c.args.matches.now))) c.in-run.is c.requires
 
 pub returns-in-run : goal.returns-in-run
 returns-in-run c = record { command = c.read_run.ensures.command ∙ sym c.in-run.is; values = c.read_run.ensures.values }
@@ -30,7 +29,7 @@ returns-in-run c = record { command = c.read_run.ensures.command ∙ sym c.in-ru
 pub read_plan-requires : goal.read_plan-requires
 read_plan-requires c =
     let wanted = subst (λ (name : Text). HasWanted name (rows_of (found_of c.args.matches.now))) c.in-plan.is c.requires in
-    record { pool = wanted.0; limit = wanted.1; align = wanted.2; stats = wanted.3 }
+    record { pool = wanted.0; limit = wanted.1; align = wanted.2 }
 
 pub returns-in-plan : goal.returns-in-plan
 returns-in-plan c = record { command = c.read_plan.ensures.command ∙ sym c.in-plan.is; values = c.read_plan.ensures.values }
@@ -38,7 +37,7 @@ returns-in-plan c = record { command = c.read_plan.ensures.command ∙ sym c.in-
 pub read_map-requires : goal.read_map-requires
 read_map-requires c =
     let wanted = subst (λ (name : Text). HasWanted name (rows_of (found_of c.args.matches.now))) c.in-map.is c.requires in
-    record { pool = wanted.0; limit = wanted.1; align = wanted.2; svg = wanted.3 }
+    record { pool = wanted.0; limit = wanted.1; align = wanted.2 }
 
 pub returns-in-map : goal.returns-in-map
 returns-in-map c = record { command = c.read_map.ensures.command ∙ sym c.in-map.is; values = c.read_map.ensures.values }
@@ -46,7 +45,7 @@ returns-in-map c = record { command = c.read_map.ensures.command ∙ sym c.in-ma
 pub read_replay-requires : goal.read_replay-requires
 read_replay-requires c =
     let wanted = subst (λ (name : Text). HasWanted name (rows_of (found_of c.args.matches.now))) c.in-replay.is c.requires in
-    record { align = wanted.0; strict = wanted.1; summary = wanted.2 }
+    record { align = wanted.0; summary = wanted.1 }
 
 pub returns-in-replay : goal.returns-in-replay
 returns-in-replay c = record { command = c.read_replay.ensures.command ∙ sym c.in-replay.is; values = c.read_replay.ensures.values }

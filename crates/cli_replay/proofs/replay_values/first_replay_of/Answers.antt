@@ -1,14 +1,14 @@
 use Rattle.std.proofs.Common.{◌≡◌, Err, Ok}
 use Rattle.cc_values.specs.Values.{both}
-use Rattle.cli_replay.specs.ReplayTexts.{format_in, least_in, output_in, realloc_given, span_given, sweep_given}
-use Rattle.cli_replay.proofs.ReplayTextsLemmas.{moves_found, output_found, pool_found, replay_found, replay_refused}
-use Rattle.cli_replay.proofs.replay_texts.first_replay_of.Goals as goal
+use Rattle.cli_replay.specs.ReplayValues.{format_in, least_in, output_in, realloc_given, span_given, sweep_given}
+use Rattle.cli_replay.proofs.ReplayValuesLemmas.{moves_found, output_found, pool_found, replay_found, replay_refused}
+use Rattle.cli_replay.proofs.replay_values.first_replay_of.Goals as goal
 
 pub returns-in-Err-clause-value : goal.returns-in-Err-clause-value
 returns-in-Err-clause-value c =
-    let texts = c.args.texts in
-    let told : both (both (sweep_given texts.sweep) (least_in texts.least)) (both (output_in texts.output)
-    (both (span_given texts.pool) (both (format_in texts.format) (realloc_given texts.output texts.realloc)))) ≡ Err c.in-Err.refusal =
+    let values = c.args.values in
+    let told : both (both (sweep_given values.sweep) (least_in values.least)) (both (output_in values.output)
+    (both (span_given values.pool) (both (format_in values.format) (realloc_given values.output values.realloc)))) ≡ Err c.in-Err.refusal =
     cc (
       c.both-sweeping.ensures,
       c.both-placing.ensures,
@@ -23,13 +23,13 @@ returns-in-Err-clause-value c =
       c.realloc_of.ensures.value,
       c.in-Err.is,
     ) in
-    replay_refused c.args.align c.args.strict texts c.in-Err.refusal told
+    replay_refused values c.in-Err.refusal told
 
 pub returns-in-Ok-clause-value : goal.returns-in-Ok-clause-value
 returns-in-Ok-clause-value c =
-    let texts = c.args.texts in
-    let told : both (both (sweep_given texts.sweep) (least_in texts.least)) (both (output_in texts.output)
-    (both (span_given texts.pool) (both (format_in texts.format) (realloc_given texts.output texts.realloc)))) ≡ Ok
+    let values = c.args.values in
+    let told : both (both (sweep_given values.sweep) (least_in values.least)) (both (output_in values.output)
+    (both (span_given values.pool) (both (format_in values.format) (realloc_given values.output values.realloc)))) ≡ Ok
     ((c.in-Ok.policy, c.in-Ok.least_quarantine), ((c.in-Ok.output, c.in-Ok.each), (c.in-Ok.pool, (c.in-Ok.format, c.in-Ok.realloc)))) =
     cc (
       c.both-sweeping.ensures,
@@ -45,7 +45,7 @@ returns-in-Ok-clause-value c =
       c.realloc_of.ensures.value,
       c.in-Ok.is,
     ) in
-    replay_found c.args.align c.args.strict texts c.in-Ok.policy c.in-Ok.least_quarantine c.in-Ok.output c.in-Ok.each c.in-Ok.pool c.in-Ok.format c.in-Ok.realloc told
+    replay_found values c.in-Ok.policy c.in-Ok.least_quarantine c.in-Ok.output c.in-Ok.each c.in-Ok.pool c.in-Ok.format c.in-Ok.realloc told
 
 pub returns-in-Ok-clause-pool : goal.returns-in-Ok-clause-pool
 returns-in-Ok-clause-pool c =
@@ -63,7 +63,7 @@ returns-in-Ok-clause-moves c = λ scripted.
 
 pub returns-in-Ok-clause-output : goal.returns-in-Ok-clause-output
 returns-in-Ok-clause-output c =
-    let told : both c.both-sweeping.result (both (output_in c.args.texts.output) c.both-placing.result) ≡ Ok
+    let told : both c.both-sweeping.result (both (output_in c.args.values.output) c.both-placing.result) ≡ Ok
     ((c.in-Ok.policy, c.in-Ok.least_quarantine), ((c.in-Ok.output, c.in-Ok.each), (c.in-Ok.pool, (c.in-Ok.format, c.in-Ok.realloc)))) =
     cc (c.both.ensures, c.both-2.ensures, c.output_of.ensures, c.in-Ok.is) in
-    output_found c.both-sweeping.result c.args.texts.output c.both-placing.result _ told
+    output_found c.both-sweeping.result c.args.values.output c.both-placing.result _ told

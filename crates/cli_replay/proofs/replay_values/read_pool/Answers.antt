@@ -1,6 +1,6 @@
 use Rattle.std.proofs.Common.{arith}
-use Rattle.cli_replay.proofs.ReplayTextsLemmas.{span_split, span_unsplit}
-use Rattle.cli_replay.proofs.replay_texts.read_pool.Goals as goal
+use Rattle.cli_replay.proofs.ReplayValuesLemmas.{span_split, span_unsplit}
+use Rattle.cli_replay.proofs.replay_values.read_pool.Goals as goal
 
 pub returns-in-Some-clause-value : goal.returns-in-Some-clause-value
 returns-in-Some-clause-value c =

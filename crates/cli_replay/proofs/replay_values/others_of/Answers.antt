@@ -1,8 +1,8 @@
 use Rattle.std.proofs.Common.{◌≡◌, ◌∙◌, ◌<◌, [], ◌∷◌, ◌==◌, List, ℕ, Ok, ap, arith, length, sym}
 use Rattle.std.proofs.lemmas.List.Splits.{length-slice_split}
-use Rattle.cli_replay.specs.ReplayTexts.{in_summary, others_given, others_in, pieces_of}
-use Rattle.cli_replay.proofs.ReplayTextsLemmas.{others_summed}
-use Rattle.cli_replay.proofs.replay_texts.others_of.Goals as goal
+use Rattle.cli_replay.specs.ReplayValues.{in_summary, others_given, others_in, pieces_of}
+use Rattle.cli_replay.proofs.ReplayValuesLemmas.{others_summed}
+use Rattle.cli_replay.proofs.replay_values.others_of.Goals as goal
 
 pub returns-in_default-split_at_first : goal.returns-in_default-split_at_first
 returns-in_default-split_at_first c =

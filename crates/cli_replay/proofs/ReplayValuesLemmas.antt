@@ -1,4 +1,4 @@
--- The values of the texts of `replay`, and their refusals.
+-- The values of the values of `replay`, and their refusals.
 use Rattle.std.proofs.Common.{◌≡◌, ◌∙◌, ◌<◌, Bool, List, [], ◌∷◌, length, nat_lt, true, false, Option, Some, None, Result, Ok, Err, ap, ap₂, arith, suc, zero, refl, subst, sym}
 use Rattle.std.specs.Prelude.{ℕ, ◌==◌, ◌^◌, IfOk}
 use Rattle.std.specs.List.{after_first, before_first, position_or_len}
@@ -15,9 +15,9 @@ use Rattle.cc_heap.specs.declared.reallocation.Reallocation.{Reallocation}
 use Rattle.cc_heap.specs.declared.reallocation.Reallocation.TheVariants.{Move}
 use Rattle.cli.specs.declared.invocation.ReplayOutput.{ReplayOutput}
 use Rattle.cli.specs.declared.invocation.ReplayOutput.TheVariants.{Summary, Sizes, Chart, Script, Series}
-use Rattle.cli.specs.declared.invocation.ReplayTexts.{ReplayTexts}
+use Rattle.cli.specs.declared.invocation.ReplayValues.{ReplayValues}
 use Rattle.cc_io.specs.CommandOutput.{changed}
-use Rattle.cli_replay.specs.ReplayTexts.{format_in, least_in, not_zero, output_in, realloc_given, first_replay_in, in_summary, others_in, policies_after, span_given, span_in, sweep_given}
+use Rattle.cli_replay.specs.ReplayValues.{format_in, least_in, not_zero, output_in, realloc_given, first_replay_in, in_summary, others_in, policies_after, span_given, span_in, sweep_given}
 
 -- The two results have both values.
 pub parts_of_both : {A B : Type 0} (first : Result A Refusal) (second : Result B Refusal) (found : A × B) → both first second ≡ Ok found
@@ -38,7 +38,7 @@ pub of_value : {A : Type 0} (P : A → Type 0) (result : Result A Refusal) (valu
 of_value P (Ok other) value holds e = let same : other ≡ value = cc e in subst P same holds
 of_value P (Err refusal) value holds e = cc e
 
--- The pool of the texts is a span, if that of its own text is.
+-- The pool of the values is a span, if that of its own text is.
 pub pool_found : {A B C : Type 0} (sweeping : Result A Refusal) (each : Result B Refusal) (pool : Result Span Refusal) (naming : Result C Refusal)
     (found : A × (B × (Span × C))) → both sweeping (both each (both pool naming)) ≡ Ok found → IfOk pool IsSpan → IsSpan found.1.1.0
 pool_found sweeping each pool naming found told holds =
@@ -46,7 +46,7 @@ pool_found sweeping each pool naming found told holds =
     let placing = parts_of_both each (both pool naming) found.1 later.1 in
     of_value IsSpan pool found.1.1.0 holds (parts_of_both pool naming found.1.1 placing.1).0
 
--- The effect of a reallocation by the texts is to move the object, if that by its own text is.
+-- The effect of a reallocation by the values is to move the object, if that by its own text is.
 pub moves_found : {A B C D : Type 0} (sweeping : Result A Refusal) (each : Result B Refusal) (pool : Result C Refusal) (format : Result D Refusal)
     (realloc : Result Reallocation Refusal) (found : A × (B × (C × (D × Reallocation))))
     → both sweeping (both each (both pool (both format realloc))) ≡ Ok found → IfOk realloc (λ effect. effect ≡ Move) → found.1.1.1.1 ≡ Move
@@ -56,7 +56,7 @@ moves_found sweeping each pool format realloc found told holds =
     let naming = parts_of_both pool (both format realloc) found.1.1 placing.1 in
     of_value (λ effect. effect ≡ Move) realloc found.1.1.1.1 holds (parts_of_both format realloc found.1.1.1 naming.1).1
 
--- The output of the texts is the requested one.
+-- The output of the values is the requested one.
 output_given : (given : Option ReplayOutput) (found : ReplayOutput × ℕ) → output_in given ≡ Ok found → given ≡ Some found.0
 output_given None found e = cc e
 output_given (Some (Series text)) found e =
@@ -72,27 +72,27 @@ output_found sweeping given placing found told =
     let later = parts_of_both sweeping (both (output_in given) placing) found told in
     output_given given found.1.0 (parts_of_both (output_in given) placing found.1 later.1).0
 
--- A refusal of one of the texts.
-pub replay_refused : (align : Align) (strict : Bool) (texts : ReplayTexts) (refusal : Refusal)
-    → both (both (sweep_given texts.sweep) (least_in texts.least)) (both (output_in texts.output)
-    (both (span_given texts.pool) (both (format_in texts.format) (realloc_given texts.output texts.realloc)))) ≡ Err refusal
-    → Err refusal ≡ first_replay_in align strict texts
-replay_refused align strict texts refusal told = ap (changed _) (sym told)
+-- A refusal of one of the values.
+pub replay_refused : (values : ReplayValues) (refusal : Refusal)
+    → both (both (sweep_given values.sweep) (least_in values.least)) (both (output_in values.output)
+    (both (span_given values.pool) (both (format_in values.format) (realloc_given values.output values.realloc)))) ≡ Err refusal
+    → Err refusal ≡ first_replay_in values
+replay_refused values refusal told = ap (changed _) (sym told)
 
--- The values of all texts.
-pub replay_found : (align : Align) (strict : Bool) (texts : ReplayTexts) (policy : Policy) (least : ℕ) (output : ReplayOutput) (each : ℕ) (pool : Span) (format : TraceFormat)
+-- The values of all values.
+pub replay_found : (values : ReplayValues) (policy : Policy) (least : ℕ) (output : ReplayOutput) (each : ℕ) (pool : Span) (format : TraceFormat)
     (realloc : Reallocation)
-    → both (both (sweep_given texts.sweep) (least_in texts.least)) (both (output_in texts.output)
-    (both (span_given texts.pool) (both (format_in texts.format) (realloc_given texts.output texts.realloc))))
+    → both (both (sweep_given values.sweep) (least_in values.least)) (both (output_in values.output)
+    (both (span_given values.pool) (both (format_in values.format) (realloc_given values.output values.realloc))))
     ≡ Ok ((policy, least), ((output, each), (pool, (format, realloc))))
     → Ok (
       output,
       (
-        record { limit = 2 ^ 24; pool = pool; align = align; policy = policy; least_quarantine = least; realloc = realloc },
-        record { format = format; is_strict = strict; each = each },
+        record { limit = 2 ^ 24; pool = pool; align = values.align; policy = policy; least_quarantine = least; realloc = realloc },
+        record { format = format; is_strict = values.strict; each = each },
       ),
-    ) ≡ first_replay_in align strict texts
-replay_found align strict texts policy least output each pool format realloc told = ap (changed _) (sym told)
+    ) ≡ first_replay_in values
+replay_found values policy least output each pool format realloc told = ap (changed _) (sym told)
 
 -- The span of a text with a colon, and the refusal of one without.
 pub span_split : (text base size : List ℕ) (result : Result Span Refusal) → base ≡ before_first (λ byte. byte == 58) text → size ≡ after_first (λ byte. byte == 58) text

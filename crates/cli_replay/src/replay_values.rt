@@ -4,7 +4,7 @@ ghost use Rattle.cc_replay.specs.PolicyText.{policy_in};
 ghost use Rattle.cc_bounds.specs.Span.{IsSpan};
 ghost use Rattle.cli.specs.declared.invocation.ReplayOutput.TheVariants.{Script};
 ghost use Rattle.cc_heap.specs.declared.reallocation.Reallocation.TheVariants.{Move};
-ghost use Rattle.cli_replay.specs.ReplayTexts.{
+ghost use Rattle.cli_replay.specs.ReplayValues.{
   first_policy,
   first_replay_in,
   format_in,
@@ -30,7 +30,7 @@ use cc_replay::{Policy, Reading, Reallocation, Settings, Share, TraceFormat, rea
 use cc_syntax::{both, read_address, read_request};
 use cc_values::split_at_first;
 use cc_word::Refusal;
-use cli::{ReplayOutput, ReplayTexts};
+use cli::{ReplayOutput, ReplayValues};
 use std::marker::Model;
 
 /// The maximum number of policies after the first.
@@ -103,18 +103,16 @@ impl Policies {
 /// Errors, in order: as of one policy; `Syntax` also if there are several and the output is not the summary, and
 /// `OutOfRange` if there are more than eight.
 pub(crate) fn replay_of<'a>(
-    align: Align,
-    strict: bool,
-    texts: ReplayTexts<'a>,
+    values: ReplayValues<'a>,
 ) -> Result<(ReplayOutput<'a>, (Settings, (Reading, Policies))), Refusal>
-    ensures value { result ≡ replay_in align strict texts.entry }
-    ensures output { IfOk result (λ found. texts.entry.output ≡ Some found.0) }
+    ensures value { result ≡ replay_in values.entry }
+    ensures output { IfOk result (λ found. values.entry.output ≡ Some found.0) }
     ensures limit { IfOk result (λ found. found.1.0.limit ≡ 2 ^ 24) }
     ensures pool { IfOk result (λ found. IsSpan found.1.0.pool) }
-    ensures moves { texts.entry.output ≡ Some Script → IfOk result (λ found. found.1.0.realloc ≡ Move) }
+    ensures moves { values.entry.output ≡ Some Script → IfOk result (λ found. found.1.0.realloc ≡ Move) }
 {
-    let others = others_of(texts.output, texts.sweep);
-    match first_replay_of(align, strict, texts) {
+    let others = others_of(values.output, values.sweep);
+    match first_replay_of(values) {
         Ok((output, (settings, reading))) => match others {
             Ok(others) => Ok((output, (settings, (reading, others)))),
             Err(refusal) => Err(refusal),
@@ -177,37 +175,35 @@ fn read_policies(text: &[u8]) -> Result<Policies, Refusal>
 /// `OutOfBounds` if the pool ends past 2^64; `OutOfRange` if a number is too large, or the number of `--each`
 /// is 0.
 fn first_replay_of<'a>(
-    align: Align,
-    strict: bool,
-    texts: ReplayTexts<'a>,
+    values: ReplayValues<'a>,
 ) -> Result<(ReplayOutput<'a>, (Settings, Reading)), Refusal>
-    ensures value { result ≡ first_replay_in align strict texts.entry }
-    ensures output { IfOk result (λ found. texts.entry.output ≡ Some found.0) }
+    ensures value { result ≡ first_replay_in values.entry }
+    ensures output { IfOk result (λ found. values.entry.output ≡ Some found.0) }
     ensures limit { IfOk result (λ found. found.1.0.limit ≡ 2 ^ 24) }
     ensures pool { IfOk result (λ found. IsSpan found.1.0.pool) }
-    ensures moves { texts.entry.output ≡ Some Script → IfOk result (λ found. found.1.0.realloc ≡ Move) }
+    ensures moves { values.entry.output ≡ Some Script → IfOk result (λ found. found.1.0.realloc ≡ Move) }
 {
-    let sweeping = both(policy_of(texts.sweep), least_of(texts.least));
+    let sweeping = both(policy_of(values.sweep), least_of(values.least));
     let naming = both(
-        format_of(texts.format),
-        realloc_of(texts.output, texts.realloc),
+        format_of(values.format),
+        realloc_of(values.output, values.realloc),
     );
-    let placing = both(pool_of(texts.pool), naming);
-    match both(sweeping, both(output_of(texts.output), placing)) {
+    let placing = both(pool_of(values.pool), naming);
+    match both(sweeping, both(output_of(values.output), placing)) {
         Ok(((policy, least_quarantine), ((output, each), (pool, (format, realloc))))) => Ok((
             output,
             (
                 Settings {
                     limit: MOST_HELD,
                     pool,
-                    align,
+                    align: values.align,
                     policy,
                     least_quarantine,
                     realloc,
                 },
                 Reading {
                     format,
-                    is_strict: strict,
+                    is_strict: values.strict,
                     each,
                 },
             ),

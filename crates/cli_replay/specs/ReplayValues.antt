@@ -22,7 +22,7 @@ use Rattle.cc_heap.specs.declared.reallocation.Reallocation.TheVariants.{Move, K
 use Rattle.cc_heap.specs.declared.settings.Settings.{Settings}
 use Rattle.cli.specs.declared.invocation.ReplayOutput.{ReplayOutput}
 use Rattle.cli.specs.declared.invocation.ReplayOutput.TheVariants.{Script, Series, Summary}
-use Rattle.cli.specs.declared.invocation.ReplayTexts.{ReplayTexts}
+use Rattle.cli.specs.declared.invocation.ReplayValues.{ReplayValues}
 use Rattle.cc_io.specs.CommandOutput.{changed}
 
 -- The names of policies: the parts of a text between its commas.
@@ -131,22 +131,22 @@ realloc_given output (Some text) = in_output output (realloc_named text.now)
 -- first: a text is not a number, not a policy, not a pool or not one of the names, or two of `--sizes`, `--svg`, `--script`
 -- and `--each` are given, or `--script` with `--realloc keep`. Then comes that a pool ends past 2^64, and then that a number
 -- is out of range.
-abbrev pub first_replay_in : Align → (strict : Bool) → ReplayTexts → Result (ReplayOutput × (Settings × Reading)) Refusal
-first_replay_in align strict texts =
+abbrev pub first_replay_in : ReplayValues → Result (ReplayOutput × (Settings × Reading)) Refusal
+first_replay_in values =
     changed
     (λ found. (
       found.1.0.0,
       (
-        record { limit = 2 ^ 24; pool = found.1.1.0; align = align; policy = found.0.0; least_quarantine = found.0.1; realloc = found.1.1.1.1 },
-        record { format = found.1.1.1.0; is_strict = strict; each = found.1.0.1 },
+        record { limit = 2 ^ 24; pool = found.1.1.0; align = values.align; policy = found.0.0; least_quarantine = found.0.1; realloc = found.1.1.1.1 },
+        record { format = found.1.1.1.0; is_strict = values.strict; each = found.1.0.1 },
       ),
     ))
-    (both (both (sweep_given texts.sweep) (least_in texts.least)) (both (output_in texts.output) (both (span_given texts.pool) (both (format_in texts.format) (realloc_given texts.output texts.realloc)))))
+    (both (both (sweep_given values.sweep) (least_in values.least)) (both (output_in values.output) (both (span_given values.pool) (both (format_in values.format) (realloc_given values.output values.realloc)))))
 
 -- The output, the settings of the first heap, how the trace is read, and the policies of the other heaps, or the first error, as
 -- of one heap. It is `Syntax` too if there are several policies and the output is not the summary, and `OutOfRange` if there are
 -- more than eight.
-abbrev pub replay_in : Align → (strict : Bool) → ReplayTexts → Result (ReplayOutput × (Settings × (Reading × List Policy))) Refusal
-replay_in align strict texts =
+abbrev pub replay_in : ReplayValues → Result (ReplayOutput × (Settings × (Reading × List Policy))) Refusal
+replay_in values =
     changed (λ found. (found.0.0, (found.0.1.0, (found.0.1.1, found.1))))
-    (both (first_replay_in align strict texts) (others_given texts.output texts.sweep))
+    (both (first_replay_in values) (others_given values.output values.sweep))
