@@ -2,9 +2,9 @@
 //! runs scripts on a machine of capabilities, and replays the traces of allocators.
 #![tactic(auto)]
 
-mod full_memory;
+mod memory_with_replay;
 
-use crate::full_memory::FullMemory;
+use crate::memory_with_replay::MemoryWithReplay;
 use cli_program::run_program;
 use cli_scripts::Terminals;
 use std::io::IsTerminal;
@@ -15,6 +15,6 @@ fn main(rt: HostRuntime) -> ExitCode {
         input: rt.stdin().is_terminal(),
         errors: rt.stderr().is_terminal(),
     };
-    let mut memory = FullMemory::new(rt.alloc());
+    let mut memory = MemoryWithReplay::new(rt.alloc());
     ExitCode::from(run_program(&rt, &mut memory, terminals))
 }

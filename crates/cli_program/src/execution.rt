@@ -6,7 +6,7 @@ ghost use Rattle.cli.specs.Devices.{IsEnd, OnDevices, console_of};
 ghost use Rattle.cli.specs.Input.{OpensFile};
 ghost use Rattle.cli_program.specs.Execution.{IsUnasked, effect_of};
 
-use crate::replay_memory::ReplayMemory;
+use crate::replay_support::ReplaySupport;
 use cc_io::{Sink, Summary};
 use cli::{Fault, Inputs, Invocation};
 use cli_scripts::{Report, RunMemory, Terminals, map_file, plan_file, run_file};
@@ -23,7 +23,7 @@ use cli_words::{annotate_file, ask, decode_file, round_file};
 /// a read of it, or the sink failed. Memory is allocated by commands that create a machine or a heap, and for the tags
 /// and the core file of `decode`. Nothing is reported then. If the error is `Open`, or if it is `Memory` in `decode`,
 /// `map`, or `replay` without `--each` and `--script`, nothing was written to `sink` either.
-pub fn execute<M: RunMemory + ReplayMemory, I: Inputs, W: Sink, E: Sink>(
+pub fn execute<M: RunMemory + ReplaySupport, I: Inputs, W: Sink, E: Sink>(
     memory: &mut M,
     invocation: Invocation<'_>,
     terminals: Terminals,
@@ -40,27 +40,27 @@ pub fn execute<M: RunMemory + ReplayMemory, I: Inputs, W: Sink, E: Sink>(
     requires errors { (E.state errors.old).has_failed ≡ false }
     // The command's bytes are written, and the summary says whether there is an error. At `Ok`, so is
     // the hint of `show`, `round` or `explain`, if there is one and standard error does not fail.
-    ensures executes { OnDevices ((effect_of M.command terminals invocation.entry).Does
+    ensures executes { OnDevices ((effect_of M.replay terminals invocation.entry).Does
         (console_of (I.bytes_of inputs.old) (I.Opened.state source.new) (W.state sink.old) (W.state sink.new)
         (E.state errors.old) (E.state errors.new))) result }
     // If memory runs out in `run` or `plan`, nothing was written, or, with `--stats`, the whole
     // output; in `decode`, in `map`, and in `replay` without `--each` and `--script`, nothing. Only a
     // command that creates a machine or a heap, or reads a file of tags or a core file first, runs
     // out of memory.
-    ensures starved { result ≡ Err Fault.Memory → (effect_of M.command terminals invocation.entry).Starves
+    ensures starved { result ≡ Err Fault.Memory → (effect_of M.replay terminals invocation.entry).Starves
         (console_of (I.bytes_of inputs.old) (I.Opened.state source.new) (W.state sink.old) (W.state sink.new)
         (E.state errors.old) (E.state errors.new)) }
     ensures allocates { (result ≡ Err Fault.Memory) ↔ (M.has_failed memory.new ≡ true) }
     // Opening fails only for a FILE that is given and is not `-`, and for a file of tags.
-    ensures open { result ≡ Err Fault.Open → IfSome (effect_of M.command terminals invocation.entry).input
+    ensures open { result ≡ Err Fault.Open → IfSome (effect_of M.replay terminals invocation.entry).input
         (λ asked. OpensFile asked.tags asked.input) }
     // Unless the last input that was requested is the command's, neither inputs nor source were
     // used. A command with refused arguments has no input.
-    ensures asked { IsUnasked (effect_of M.command terminals invocation.entry).input (I.last_asked inputs.new)
+    ensures asked { IsUnasked (effect_of M.replay terminals invocation.entry).input (I.last_asked inputs.new)
         → (inputs.new ≡ inputs.old) × (source.new ≡ source.old) }
     ensures unreported { OnErr result ((E.state errors.new).taken ≡ (E.state errors.old).taken) }
     // Other commands than those that can report write nothing to standard error.
-    ensures silent { ¬ (effect_of M.command terminals invocation.entry).Reports → errors.new ≡ errors.old }
+    ensures silent { ¬ (effect_of M.replay terminals invocation.entry).Reports → errors.new ≡ errors.old }
     ensures end { IsEnd (I.has_refused inputs.new) (I.Opened.state source.new) (W.state sink.old) (W.state sink.new)
         result }
 {
@@ -89,6 +89,7 @@ pub fn execute<M: RunMemory + ReplayMemory, I: Inputs, W: Sink, E: Sink>(
             svg,
             file,
         } => map_file(memory, limit, pool, align, svg, inputs, source, file, sink),
+        // in the program `cheri_cap`, this is `cli_replay::replay_file`
         Invocation::Replay { values, file } => {
             memory.replay_file(values, inputs, source, file, sink)
         }

@@ -4,8 +4,8 @@
 
 mod execution;
 mod program;
-mod replay_memory;
+mod replay_support;
 
 pub use execution::execute;
 pub use program::{answer_on_process, answer_words, run_program};
-pub use replay_memory::ReplayMemory;
+pub use replay_support::ReplaySupport;

@@ -13,7 +13,7 @@ ghost use Rattle.cli.specs.Invocation.{IsInvocation, IsProgram, is_taken, kinds_
 ghost use Rattle.cli.specs.Outcome.{EndsOn, status_of};
 
 use crate::execution::execute;
-use crate::replay_memory::ReplayMemory;
+use crate::replay_support::ReplaySupport;
 use cc_io::{FromWriter, Sink};
 use clap::Error;
 use clap::error::ErrorKind;
@@ -33,7 +33,7 @@ use std::rt::Files;
 /// No clause says that these are the arguments of the process; `tests/program` shows it.
 pub fn run_program<
     R: Env + AllocGlobal + Files + Input + Print + Eprint,
-    M: RunMemory + ReplayMemory,
+    M: RunMemory + ReplaySupport,
 >(rt: &R, memory: &mut M, terminals: Terminals) -> u8
     requires { M.has_failed memory.old ≡ false }
     ensures { (end : EndingSpec) × (result ≡ status_of end) }
@@ -46,7 +46,7 @@ pub fn run_program<
 /// Executes the command line of the process, and returns the program's end.
 fn answer_arguments<
     R: Env + AllocGlobal + Files + Input + Print + Eprint,
-    M: RunMemory + ReplayMemory,
+    M: RunMemory + ReplaySupport,
 >(rt: &R, memory: &mut M, terminals: Terminals, reason: &Reason) -> Ending
     requires { M.has_failed memory.old ≡ false }
 {
@@ -66,7 +66,7 @@ fn answer_arguments<
 
 /// Executes a command line, and returns the program's end. The first argument is the program's name. Only
 /// `tests/program` shows that these arguments are executed: no clause says so.
-fn answer_strings<R: AllocGlobal + Files + Input + Print + Eprint, M: RunMemory + ReplayMemory>(
+fn answer_strings<R: AllocGlobal + Files + Input + Print + Eprint, M: RunMemory + ReplaySupport>(
     rt: &R,
     memory: &mut M,
     terminals: Terminals,
@@ -101,13 +101,13 @@ fn ask_for_help(words: &mut [&str]) {
 /// program's end.
 pub fn answer_on_process<
     R: AllocGlobal + Files + Input + Print + Eprint,
-    M: RunMemory + ReplayMemory,
+    M: RunMemory + ReplaySupport,
 >(rt: &R, memory: &mut M, terminals: Terminals, words: &[&str], reason: &Reason) -> Ending
     requires { M.has_failed memory.old ≡ false }
     ensures refused { result ≡ ending.Refused → (app : App) × IsProgram app
         × ((is_taken app (texts words.now) ≡ false)
-        ⊎ FindsTexts M.command false (subcommand_of app (texts words.now))) }
-    ensures ends { EndsByArguments M.command (texts words.now) (λ kinds. EndsOn kinds result) }
+        ⊎ FindsTexts M.replay false (subcommand_of app (texts words.now))) }
+    ensures ends { EndsByArguments M.replay (texts words.now) (λ kinds. EndsOn kinds result) }
 {
     let mut inputs = ProcessInputs::new(
         rt,
@@ -154,7 +154,7 @@ fn output_of<'a, R: AllocGlobal + Print>(
 /// Requires: no device has failed.
 /// Errors: clap does not accept the arguments, a text of `replay` is refused, help or the version is requested, or
 /// memory ran out before the command was known. Nothing is read or written then.
-pub fn answer_words<M: RunMemory + ReplayMemory, I: Inputs, W: Sink, E: Sink>(
+pub fn answer_words<M: RunMemory + ReplaySupport, I: Inputs, W: Sink, E: Sink>(
     memory: &mut M,
     terminals: Terminals,
     words: &[&str],
@@ -170,7 +170,7 @@ pub fn answer_words<M: RunMemory + ReplayMemory, I: Inputs, W: Sink, E: Sink>(
     requires errors { (E.state errors.old).has_failed ≡ false }
     // A command line that is accepted ends as its command does on these devices.
     ensures executes { IfOk result (λ end. (app : App) × IsProgram app
-        × ExecutesCommand M.command (subcommand_of app (texts words.now)) terminals
+        × ExecutesCommand M.replay (subcommand_of app (texts words.now)) terminals
         (console_of (I.bytes_of inputs.old) (I.Opened.state source.new) (W.state sink.old) (W.state sink.new)
         (E.state errors.old) (E.state errors.new))
         (failures_of (I.has_refused inputs.new) (I.Opened.state source.new) (W.state sink.new) (M.has_failed memory.new)
@@ -187,15 +187,15 @@ pub fn answer_words<M: RunMemory + ReplayMemory, I: Inputs, W: Sink, E: Sink>(
         → (M.has_failed memory.new ≡ true) ⊎ FindsReplay (subcommand_of app (texts words.now))) }
     ensures asked { IfOk result (λ end. (app : App) × IsProgram app × (invocation : InvocationSpec)
         × IsInvocation (subcommand_of app (texts words.now)) invocation
-        × (IsUnasked (effect_of M.command terminals invocation).input (I.last_asked inputs.new)
+        × (IsUnasked (effect_of M.replay terminals invocation).input (I.last_asked inputs.new)
         → (inputs.new ≡ inputs.old) × (source.new ≡ source.old))) }
     ensures accepted { IfOk result (λ end. end ≢ ending.Refused) }
     ensures good_texts { IfOk result (λ end. (app : App) × IsProgram app
-        × FindsTexts M.command true (subcommand_of app (texts words.now))) }
-    ensures kinds { EndsByArguments M.command (texts words.now) (λ kinds. FailsBy kinds result) }
+        × FindsTexts M.replay true (subcommand_of app (texts words.now))) }
+    ensures kinds { EndsByArguments M.replay (texts words.now) (λ kinds. FailsBy kinds result) }
     ensures refused { IfErr result (λ error. (app : App) × IsProgram app × (is_taken app (texts words.now) ≡ true
         → (kind_of error ≡ ErrorKind.OutOfMemory)
-        ⊎ FindsTexts M.command false (subcommand_of app (texts words.now)))) }
+        ⊎ FindsTexts M.replay false (subcommand_of app (texts words.now)))) }
     ensures no_output { OnErr result (sink.new ≡ sink.old) }
     ensures no_report { OnErr result (errors.new ≡ errors.old) }
     ensures no_input { OnErr result (inputs.new ≡ inputs.old) }
@@ -212,17 +212,17 @@ pub fn answer_words<M: RunMemory + ReplayMemory, I: Inputs, W: Sink, E: Sink>(
 }
 
 /// Reads the arguments as a command whose texts are accepted.
-fn read_invocation<'a, M: ReplayMemory>(
+fn read_invocation<'a, M: ReplaySupport>(
     memory: &mut M,
     words: &'a [&'a str],
 ) -> Result<Invocation<'a>, Error>
     ensures read { IfOk result (λ invocation. (app : App) × IsProgram app
         × IsInvocation (subcommand_of app (texts words.now)) invocation
-        × (has_good_texts M.command invocation ≡ true)) }
-    ensures kinds { EndsByArguments M.command (texts words.now) (λ kinds. FailsBy kinds result) }
+        × (has_good_texts M.replay invocation ≡ true)) }
+    ensures kinds { EndsByArguments M.replay (texts words.now) (λ kinds. FailsBy kinds result) }
     ensures refused { IfErr result (λ error. (app : App) × IsProgram app × (is_taken app (texts words.now) ≡ true
         → (kind_of error ≡ ErrorKind.OutOfMemory)
-        ⊎ FindsTexts M.command false (subcommand_of app (texts words.now)))) }
+        ⊎ FindsTexts M.replay false (subcommand_of app (texts words.now)))) }
     ensures fails { MatchResult result (λ invocation. M.has_failed memory.new ≡ false)
         (λ error. (kind_of error ≡ ErrorKind.OutOfMemory) ↔ (M.has_failed memory.new ≡ true)) }
 {
@@ -236,12 +236,12 @@ fn read_invocation<'a, M: ReplayMemory>(
 }
 
 /// Checks the texts of `replay`.
-fn check_invocation<M: ReplayMemory>(
+fn check_invocation<M: ReplaySupport>(
     memory: &mut M,
     invocation: Invocation<'_>,
 ) -> Result<(), Error>
     requires { M.has_failed memory.old ≡ false }
-    ensures kinds { FailsBy (kinds_in (value_fault (has_good_texts M.command invocation.entry))) result }
+    ensures kinds { FailsBy (kinds_in (value_fault (has_good_texts M.replay invocation.entry))) result }
     ensures fails { MatchResult result (λ checked. M.has_failed memory.new ≡ false)
         (λ error. (kind_of error ≡ ErrorKind.OutOfMemory) ↔ (M.has_failed memory.new ≡ true)) }
 {
@@ -254,7 +254,7 @@ fn check_invocation<M: ReplayMemory>(
 /// Executes a command on these devices, and returns the program's end.
 ///
 /// Requires: the command is one that clap can find; no device has failed.
-fn answer_invocation<M: RunMemory + ReplayMemory, I: Inputs, W: Sink, E: Sink>(
+fn answer_invocation<M: RunMemory + ReplaySupport, I: Inputs, W: Sink, E: Sink>(
     memory: &mut M,
     terminals: Terminals,
     invocation: Invocation<'_>,
@@ -270,10 +270,10 @@ fn answer_invocation<M: RunMemory + ReplayMemory, I: Inputs, W: Sink, E: Sink>(
     requires sink { (W.state sink.old).has_failed ≡ false }
     requires errors { (E.state errors.old).has_failed ≡ false }
     ensures accepted { result ≢ ending.Refused }
-    ensures asked { IsUnasked (effect_of M.command terminals invocation.entry).input (I.last_asked inputs.new)
+    ensures asked { IsUnasked (effect_of M.replay terminals invocation.entry).input (I.last_asked inputs.new)
         → (inputs.new ≡ inputs.old) × (source.new ≡ source.old) }
     ensures executes { (found : Option (Text × List Row)) → IsInvocation found invocation.entry
-        → ExecutesCommand M.command found terminals
+        → ExecutesCommand M.replay found terminals
         (console_of (I.bytes_of inputs.old) (I.Opened.state source.new) (W.state sink.old) (W.state sink.new)
         (E.state errors.old) (E.state errors.new))
         (failures_of (I.has_refused inputs.new) (I.Opened.state source.new) (W.state sink.new) (M.has_failed memory.new)

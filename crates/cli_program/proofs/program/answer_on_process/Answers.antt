@@ -9,7 +9,7 @@ use Rattle.cli_program.proofs.program.answer_on_process.Goals as goal
 
 pub returns-in-Ok-clause-ends : goal.returns-in-Ok-clause-ends
 returns-in-Ok-clause-ends g c =
-    ends_by_other g.M.ReplayMemory.command (texts c.args.words.now) (λ kinds. kinds ≡ []) (λ kinds. EndsOn kinds c.in-Ok.ending)
+    ends_by_other g.M.ReplaySupport.replay (texts c.args.words.now) (λ kinds. kinds ≡ []) (λ kinds. EndsOn kinds c.in-Ok.ending)
     (λ kinds none. inl (none, c.in-Ok.ensures.accepted)) c.in-Ok.ensures.kinds
 
 pub returns-clause-refused : goal.returns-clause-refused
@@ -23,5 +23,5 @@ returns-clause-refused g c = λ is_refused.
 
 pub returns-clause-ends : goal.returns-clause-ends
 returns-clause-ends g c =
-    ends_by_other g.M.ReplayMemory.command (texts c.args.words.now) (λ kinds. HasKind kinds c.in-Err.error) (λ kinds. EndsOn kinds c.tell.result)
+    ends_by_other g.M.ReplaySupport.replay (texts c.args.words.now) (λ kinds. HasKind kinds c.in-Err.error) (λ kinds. EndsOn kinds c.tell.result)
     (λ kinds told. ends_by_error kinds c.in-Err.error c.tell.result told c.tell.ensures) c.in-Err.ensures.kinds

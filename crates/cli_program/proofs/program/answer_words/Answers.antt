@@ -29,12 +29,12 @@ returns-in-Ok-clause-runs_script g c =
     (g.W.Sink.state c.answer_invocation.new.sink) (g.E.Sink.state c.args.errors.now) (g.E.Sink.state c.answer_invocation.new.errors) in
     let failures : Failures = failures_of (g.I.Inputs.has_refused c.answer_invocation.new.inputs) (g.I.Opened.Source.state c.answer_invocation.new.source)
     (g.W.Sink.state c.answer_invocation.new.sink) (g.M.Memory.has_failed c.answer_invocation.new.memory) (g.I.Inputs.last_asked c.answer_invocation.new.inputs) in
-    (told.0, told.1, (done.invocation, done.is_invocation, runs_script g.M.ReplayMemory.command done.invocation c.args.terminals console failures c.answer_invocation.result done.executed))
+    (told.0, told.1, (done.invocation, done.is_invocation, runs_script g.M.ReplaySupport.replay done.invocation c.args.terminals console failures c.answer_invocation.result done.executed))
 
 pub returns-in-Err-clause-runs_script : goal.returns-in-Err-clause-runs_script
 returns-in-Err-clause-runs_script g c =
     let told = c.in-Err.ensures.refused in
-    (told.0, told.1, λ taken. either_gives c.in-Err.ensures.fails.0 (only_replay g.M.ReplayMemory.command (subcommand_of told.0 (texts c.args.words.now))) (told.2 taken))
+    (told.0, told.1, λ taken. either_gives c.in-Err.ensures.fails.0 (only_replay g.M.ReplaySupport.replay (subcommand_of told.0 (texts c.args.words.now))) (told.2 taken))
 
 pub returns-in-Ok-clause-asked : goal.returns-in-Ok-clause-asked
 returns-in-Ok-clause-asked g c =

@@ -1,4 +1,4 @@
-//! The memory of the program with `replay`.
+//! The memory of the program that has `replay`, and the way from this command to cli_replay.
 ghost use Rattle.std.specs.Prelude.{◌≡◌, false};
 ghost use Rattle.cheri_cap.specs.Replaying.{IsReplay, with_replay};
 
@@ -8,31 +8,31 @@ use cc_machine::Machine;
 use cc_values::Usage;
 use clap::Error;
 use cli::{Fault, GlobalMemory, Inputs, Invocation, Memory, ReplayValues};
-use cli_program::ReplayMemory;
+use cli_program::ReplaySupport;
 use cli_replay::{TraceMemory, replay_file};
 use cli_scripts::{RunMemory, Session};
 use std::alloc::{AllocError, Global};
 
 /// The memory of the process, in the program that has `replay`.
 #[derive(Drop)]
-pub struct FullMemory {
+pub struct MemoryWithReplay {
     memory: GlobalMemory,
 }
 
-impl FullMemory {
+impl MemoryWithReplay {
     /// Creates the memory of the process.
     pub fn new(alloc: Global) -> Self
-        ensures works { ⟦<FullMemory as Memory>⟧.has_failed result ≡ false }
+        ensures works { ⟦<MemoryWithReplay as Memory>⟧.has_failed result ≡ false }
         // A program over this memory has the command `replay`.
-        ensures replays { IsReplay ⟦<FullMemory as ReplayMemory>⟧.command }
+        ensures replays { IsReplay ⟦<MemoryWithReplay as ReplaySupport>⟧.replay }
     {
-        FullMemory {
+        MemoryWithReplay {
             memory: GlobalMemory::new(alloc),
         }
     }
 }
 
-impl Memory for FullMemory {
+impl Memory for MemoryWithReplay {
     ghost has_failed = { λ full. ⟦<GlobalMemory as Memory>⟧.has_failed full.memory };
 
     fn read_words<'a>(&mut self, words: &'a [&'a str]) -> Result<Invocation<'a>, Error> {
@@ -44,7 +44,7 @@ impl Memory for FullMemory {
     }
 }
 
-impl RunMemory for FullMemory {
+impl RunMemory for MemoryWithReplay {
     fn session(&mut self, limit: u32) -> Result<Session, AllocError> {
         self.memory.session(limit)
     }
@@ -54,14 +54,11 @@ impl RunMemory for FullMemory {
     }
 }
 
-impl ReplayMemory for FullMemory {
-    ghost command = { with_replay };
+impl ReplaySupport for MemoryWithReplay {
+    ghost replay = { with_replay };
 
-    fn check_replay(
-        &mut self,
-        values: ReplayValues<'_>,
-    ) -> Result<(), Error> {
-        self.memory.check_texts(values)
+    fn check_replay(&mut self, values: ReplayValues<'_>) -> Result<(), Error> {
+        self.memory.check_values(values)
     }
 
     fn replay_file<I: Inputs, W: Sink>(
@@ -72,13 +69,6 @@ impl ReplayMemory for FullMemory {
         file: Option<&str>,
         sink: &mut W,
     ) -> Result<Summary, Fault> {
-        replay_file(
-            &mut self.memory,
-            values,
-            inputs,
-            source,
-            file,
-            sink,
-        )
+        replay_file(&mut self.memory, values, inputs, source, file, sink)
     }
 }

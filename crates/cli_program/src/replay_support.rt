@@ -1,4 +1,4 @@
-//! The command `replay`, which a program has or refuses, and the memory for it.
+//! How a program executes the command `replay`, if it has it.
 ghost use Rattle.std.specs.Prelude.{◌≡◌, ◌↔◌, Err, IfOk, IfSome, MatchResult, false, true};
 ghost use Rattle.clap.specs.Words.{FailsBy, kind_of};
 ghost use Rattle.cc_io.specs.Devices.{OutputState};
@@ -15,19 +15,19 @@ use clap::{Command, Error};
 use cli::{Fault, GlobalMemory, Inputs, Memory, ReplayValues};
 use std::alloc::{AllocError, Global};
 
-/// The memory for `replay`, in a program that has this command or refuses it.
-pub trait ReplayMemory: Memory {
+/// How a program executes `replay`: as the command says, or by refusing it. Its memory decides.
+///
+/// `cheri_cap` has the command: its `MemoryWithReplay` calls `cli_replay::replay_file`. A program over `GlobalMemory`,
+/// as `cheri_cap_first` is, refuses it.
+pub trait ReplaySupport: Memory {
     // The command: whether its values are accepted, and its effect.
-    ghost command: { ReplayCommand };
+    ghost replay: { ReplayCommand };
 
     /// Checks the values of `replay`, before its trace is read.
     ///
     /// Errors: `ValueValidation` if a text is refused, or the program is one without `replay`; an allocation fails.
-    fn check_replay(
-        &mut self,
-        values: ReplayValues<'_>,
-    ) -> Result<(), Error>
-        ensures kinds { FailsBy (kinds_in (value_fault (command.accepts values.entry))) result }
+    fn check_replay(&mut self, values: ReplayValues<'_>) -> Result<(), Error>
+        ensures kinds { FailsBy (kinds_in (value_fault (replay.accepts values.entry))) result }
         ensures fails { MatchResult result (λ checked. Self.has_failed self.new ≡ false)
             (λ error. (kind_of error ≡ ErrorKind.OutOfMemory) ↔ (Self.has_failed self.new ≡ true)) };
 
@@ -48,29 +48,26 @@ pub trait ReplayMemory: Memory {
         requires inputs { I.has_refused inputs.old ≡ false }
         requires sink { (W.state sink.old).has_failed ≡ false }
         ensures executes { OnOutput (I.bytes_of inputs.old) (I.Opened.state source.new) (W.state sink.old)
-            (W.state sink.new) (command.effect values.entry file.entry).Does result }
+            (W.state sink.new) (replay.effect values.entry file.entry).Does result }
         ensures starved { result ≡ Err Fault.Memory → (errors errors_now : OutputState)
-            → (command.effect values.entry file.entry).Starves
+            → (replay.effect values.entry file.entry).Starves
             (console_of (I.bytes_of inputs.old) (I.Opened.state source.new) (W.state sink.old) (W.state sink.new)
             errors errors_now) }
         ensures allocates { (result ≡ Err Fault.Memory) ↔ (Self.has_failed self.new ≡ true) }
         ensures open { result ≡ Err Fault.Open
-            → IfSome (command.effect values.entry file.entry).input
+            → IfSome (replay.effect values.entry file.entry).input
             (λ asked. OpensFile asked.tags asked.input) }
-        ensures asked { IsUnasked (command.effect values.entry file.entry).input (I.last_asked inputs.new)
+        ensures asked { IsUnasked (replay.effect values.entry file.entry).input (I.last_asked inputs.new)
             → (inputs.new ≡ inputs.old) × (source.new ≡ source.old) }
         ensures end { IsEnd (I.has_refused inputs.new) (I.Opened.state source.new) (W.state sink.old)
             (W.state sink.new) result };
 }
 
 /// The program without `replay`, which proves and builds in less time.
-impl ReplayMemory for GlobalMemory {
-    ghost command = { no_replay };
+impl ReplaySupport for GlobalMemory {
+    ghost replay = { no_replay };
 
-    fn check_replay(
-        &mut self,
-        _values: ReplayValues<'_>,
-    ) -> Result<(), Error> {
+    fn check_replay(&mut self, _values: ReplayValues<'_>) -> Result<(), Error> {
         let error = match without_replay(self.alloc) {
             Ok(error) => error,
             Err(error) => Error::from(error),

@@ -3,7 +3,7 @@ use Rattle.cheri_cap.specs.Replaying.{trace_replay}
 use Rattle.cli.specs.Devices.{console_of}
 use Rattle.cli_program.proofs.ExecutionLemmas.{asks, does, opens, starves_if}
 use Rattle.cli_replay.specs.ReplayValues.{replay_in}
-use Rattle.cheri_cap.proofs.full_memory.FullMemoryReplayMemory.replay_file.Goals as goal
+use Rattle.cheri_cap.proofs.memory_with_replay.MemoryWithReplayReplaySupport.replay_file.Goals as goal
 
 pub returns-clause-executes : goal.returns-clause-executes
 returns-clause-executes g c = λ errors errors_now.
