@@ -15,7 +15,7 @@ use Rattle.cc_heap.specs.declared.policy.Policy.{Policy}
 use Rattle.cc_heap.specs.declared.settings.Settings.{Settings}
 use Rattle.cc_replay.specs.Group.{any_ran_out, begun_group, ran_out}
 use Rattle.cc_replay.specs.Replay.{ReplayState, begun, last_sample}
-use Rattle.cc_replay.specs.Script.{script_begun}
+use Rattle.cc_replay.specs.Script.{ScriptState}
 use Rattle.cli.specs.Devices.{Console, FromInput, OnDevices, Traffic, traffic_of}
 use Rattle.cli.specs.Input.{file_input}
 use Rattle.cli.specs.declared.fault.Fault.{Fault}
@@ -25,7 +25,7 @@ use Rattle.cli.specs.declared.invocation.ReplayOutput.TheVariants as output
 use Rattle.cli.specs.declared.invocation.ReplayValues.{ReplayValues}
 use Rattle.cli.specs.declared.invocation.SummaryFormat.{SummaryFormat}
 use Rattle.cli.proofs.DeviceLemmas.{on_devices-map}
-use Rattle.cli_replay.specs.Charting.{begun_chart, charted_text}
+use Rattle.cli_replay.specs.Charting.{Charted, charted_text}
 use Rattle.cli_replay.specs.Outputs.{Samples, Scripts, SumsUp}
 use Rattle.cli_replay.specs.ReplayValues.{replay_in}
 use Rattle.cli_replay.specs.Replaying.{Charts, GroupReplays, Replays, ReplaysTrace, WithReplay, Writes, group_text, replay_text}
@@ -47,41 +47,40 @@ with_replay values file console source found input result is_found is_input know
     (record { source = source; known = known; does = done })))
     result holds
 
--- The claim on each output, by its function.
-abbrev pub Charted : Settings → Reading → Traffic → Result Summary Fault → ReplayOutput → Type 0
-Charted settings reading traffic result kind = OnDevices (SumsUp (Charts (begun_chart settings reading)) (λ state. ran_out state.replay.progress) charted_text traffic) result
+-- The claim on each output, from the taker before the first line.
+abbrev pub Drawn : Charted → Traffic → Result Summary Fault → ReplayOutput → Type 0
+Drawn begun traffic result kind = OnDevices (SumsUp (Charts begun) (λ state. ran_out state.replay.progress) charted_text traffic) result
 
-abbrev pub Scripted : Settings → Reading → Traffic → Result Summary Fault → ReplayOutput → Type 0
-Scripted settings reading traffic result kind = OnDevices (Scripts (Writes (script_begun settings reading)) (λ state. ran_out state.progress) traffic) result
+abbrev pub Scripted : ScriptState → Traffic → Result Summary Fault → ReplayOutput → Type 0
+Scripted begun traffic result kind = OnDevices (Scripts (Writes begun) (λ state. ran_out state.progress) traffic) result
 
-abbrev pub Sampled : Settings → Reading → Traffic → Result Summary Fault → ReplayOutput → Type 0
-Sampled settings reading traffic result kind =
-    OnDevices (Samples (Replays (begun (empty_run settings) reading)) (λ state. ran_out state.progress) (replay_text kind) traffic) result
+abbrev pub Sampled : ReplayState → Traffic → Result Summary Fault → ReplayOutput → Type 0
+Sampled begun traffic result kind = OnDevices (Samples (Replays begun) (λ state. ran_out state.progress) (replay_text kind) traffic) result
 
-abbrev pub Alone : Settings → Reading → Traffic → Result Summary Fault → ReplayOutput → Type 0
-Alone settings reading traffic result kind =
-    OnDevices (SumsUp (Replays (begun (empty_run settings) reading)) (λ state. ran_out state.progress) (replay_text kind) traffic) result
+abbrev pub Alone : ReplayState → Traffic → Result Summary Fault → ReplayOutput → Type 0
+Alone begun traffic result kind = OnDevices (SumsUp (Replays begun) (λ state. ran_out state.progress) (replay_text kind) traffic) result
 
-abbrev pub Swept : Settings → (others : List Policy) → Reading → Traffic → Result Summary Fault → ReplayOutput → Type 0
-Swept settings others reading traffic result kind =
-    OnDevices (SumsUp (GroupReplays (begun_group settings others reading)) any_ran_out (group_text kind) traffic) result
+abbrev pub Swept : List ReplayState → Traffic → Result Summary Fault → ReplayOutput → Type 0
+Swept begun traffic result kind = OnDevices (SumsUp (GroupReplays begun) any_ran_out (group_text kind) traffic) result
 
 abbrev pub Written : Settings → (others : List Policy) → Reading → Traffic → Result Summary Fault → ReplayOutput → Type 0
 Written settings others reading traffic result kind = OnDevices (ReplaysTrace kind settings (reading, others) traffic) result
 
--- A claim that follows for an output follows for an equal one.
-pub by_output : (P Q : ReplayOutput → Type 0) (kind other : ReplayOutput) → kind ≡ other → (P other → Q other) → P kind → Q kind
-by_output P Q kind other is so holds = subst (λ (output : ReplayOutput). P output → Q output) (sym is) so holds
+-- A claim that follows for an output and a taker before the first line follows for an equal output and an equal taker.
+pub by_output : {S : Type 0} (P : S → ReplayOutput → Type 0) (Q : ReplayOutput → Type 0) (kind other : ReplayOutput) (taker begun : S) → kind ≡ other → taker ≡ begun
+    → (P begun other → Q other) → P taker kind → Q kind
+by_output {S} P Q kind other taker begun is begins so holds =
+    subst (λ (output : ReplayOutput). P begun output → Q output) (sym is) so (subst (λ (state : S). P state kind) begins holds)
 
 -- The summary of one heap, if there is no other policy.
 pub alone : (format : SummaryFormat) (settings : Settings) (others : List Policy) (reading : Reading) (traffic : Traffic) (result : Result Summary Fault)
-    → (length others == 0) ≡ true → Alone settings reading traffic result (output.Summary format) → Written settings others reading traffic result (output.Summary format)
+    → (length others == 0) ≡ true → Alone (begun (empty_run settings) reading) traffic result (output.Summary format) → Written settings others reading traffic result (output.Summary format)
 alone format settings [] reading traffic result none holds = holds
 alone format settings (policy ∷ others) reading traffic result none holds = absurd (omega (arith, eqb-true (length (policy ∷ others)) 0 none))
 
 -- The table of the summaries, if there is another policy.
 pub swept : (format : SummaryFormat) (settings : Settings) (others : List Policy) (reading : Reading) (traffic : Traffic) (result : Result Summary Fault)
-    → (length others == 0) ≡ false → Swept settings others reading traffic result (output.Summary format) → Written settings others reading traffic result (output.Summary format)
+    → (length others == 0) ≡ false → Swept (begun_group settings others reading) traffic result (output.Summary format) → Written settings others reading traffic result (output.Summary format)
 swept format settings [] reading traffic result some holds = cc some
 swept format settings (policy ∷ others) reading traffic result some holds = holds
 

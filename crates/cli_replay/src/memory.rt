@@ -6,7 +6,7 @@ ghost use Rattle.cc_io.specs.Devices.{IsOutcome};
 ghost use Rattle.cli.specs.Invocation.{kinds_in, value_fault};
 ghost use Rattle.cli_replay.specs.ReplayValues.{replay_in};
 
-use crate::mistakes::check_texts;
+use crate::mistakes::check_values;
 use crate::takers::TraceTaker;
 use cc_bounds::Align;
 use cc_io::{IoError, Sink, Source, Summary};
@@ -24,10 +24,7 @@ pub trait TraceMemory: Memory {
     ///
     /// Errors: `ValueValidation` if a text is refused, with a message that names the option and its forms; an
     /// allocation fails.
-    fn check_texts(
-        &mut self,
-        values: ReplayValues<'_>,
-    ) -> Result<(), Error>
+    fn check_values(&mut self, values: ReplayValues<'_>) -> Result<(), Error>
         ensures kinds { FailsBy (kinds_in (value_fault (is_ok (replay_in values.entry)))) result }
         ensures fails { MatchResult result (λ checked. Self.has_failed self.new ≡ false)
             (λ error. (kind_of error ≡ ErrorKind.OutOfMemory) ↔ (Self.has_failed self.new ≡ true)) };
@@ -67,11 +64,8 @@ pub trait TraceMemory: Memory {
 }
 
 impl TraceMemory for GlobalMemory {
-    fn check_texts(
-        &mut self,
-        values: ReplayValues<'_>,
-    ) -> Result<(), Error> {
-        let checked = check_texts(self.alloc, values);
+    fn check_values(&mut self, values: ReplayValues<'_>) -> Result<(), Error> {
+        let checked = check_values(self.alloc, values);
         self.has_failed = match &checked {
             Ok(()) => false,
             Err(error) => matches!(error.kind(), ErrorKind::OutOfMemory),

@@ -26,10 +26,7 @@ struct WrongValue<'a> {
 /// Checks that each text is of its form, and that they go together.
 ///
 /// Errors: they are not, or an allocation fails.
-pub(crate) fn check_texts(
-    alloc: Global,
-    values: ReplayValues<'_>,
-) -> Result<(), Error>
+pub(crate) fn check_values(alloc: Global, values: ReplayValues<'_>) -> Result<(), Error>
     ensures { FailsBy (kinds_in (value_fault (is_ok (replay_in values.entry)))) result }
 {
     match replay_of(values) {

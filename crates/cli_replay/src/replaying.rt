@@ -14,8 +14,8 @@ use crate::memory::TraceMemory;
 use crate::replay_values::replay_of;
 use crate::takers::{TracePrinter, TraceTaker};
 use cc_bounds::Align;
-use cc_machine::GapPlacer;
 use cc_io::{Sink, Source, Summary, write_refusal};
+use cc_machine::GapPlacer;
 use cc_replay::{Policy, Reading, Replay, ReplayGroup, Script, Settings};
 use cli::{Content, Discard, Fault, Inputs, ReplayOutput, ReplayValues, file_input};
 
@@ -90,6 +90,8 @@ fn content_of(output: ReplayOutput<'_>) -> Content
 }
 
 /// Replays the trace of a source, and writes its output.
+// not inlined, so that other commands do not touch the pages of its buffers on the stack
+#[inline(never)]
 fn replay_source<M: TraceMemory, S: Source, W: Sink>(
     memory: &mut M,
     output: ReplayOutput<'_>,
@@ -102,7 +104,6 @@ fn replay_source<M: TraceMemory, S: Source, W: Sink>(
     requires settings { IsForHeap settings }
     requires moves { output ≡ ScriptOutput → settings.realloc ≡ Move }
     requires few { length others.now ≤ 7 }
-    requires memory { M.has_failed memory.old ≡ false }
     requires source { (S.state source.old).has_failed ≡ false }
     requires sink { (W.state sink.old).has_failed ≡ false }
     ensures replays { OnStreams (S.state source.old) (S.state source.new) (W.state sink.old) (W.state sink.new)
@@ -113,56 +114,51 @@ fn replay_source<M: TraceMemory, S: Source, W: Sink>(
     ensures end { IsEnd false (S.state source.new) (W.state sink.old) (W.state sink.new) result }
 {
     match output {
-        ReplayOutput::Chart => sum_up::<Charting<GapPlacer>, _, _, _>(
-            memory, output, settings, others, reading, source, sink,
-        ),
-        ReplayOutput::Script => {
-            script::<Script<GapPlacer>, _, _, _>(memory, settings, others, reading, source, sink)
+        ReplayOutput::Chart => {
+            let mut charting: Charting<GapPlacer> = memory.begin(settings, others, reading)?;
+            sum_up(memory, &mut charting, output, source, sink)
         }
-        ReplayOutput::Series(_) => sample::<Replay<GapPlacer>, _, _, _>(
-            memory, output, settings, others, reading, source, sink,
-        ),
-        ReplayOutput::Sizes(_) => sum_up::<Replay<GapPlacer>, _, _, _>(
-            memory, output, settings, others, reading, source, sink,
-        ),
+        ReplayOutput::Script => {
+            let mut script: Script<GapPlacer> = memory.begin(settings, others, reading)?;
+            write_script(memory, &mut script, source, sink)
+        }
+        ReplayOutput::Series(_) => {
+            let mut replay: Replay<GapPlacer> = memory.begin(settings, others, reading)?;
+            write_series(memory, &mut replay, output, source, sink)
+        }
+        ReplayOutput::Sizes(_) => {
+            let mut replay: Replay<GapPlacer> = memory.begin(settings, others, reading)?;
+            sum_up(memory, &mut replay, output, source, sink)
+        }
         ReplayOutput::Summary(_) => {
             if others.is_empty() {
-                return sum_up::<Replay<GapPlacer>, _, _, _>(
-                    memory, output, settings, others, reading, source, sink,
-                );
+                let mut replay: Replay<GapPlacer> = memory.begin(settings, others, reading)?;
+                return sum_up(memory, &mut replay, output, source, sink);
             }
-            sum_up::<ReplayGroup<GapPlacer>, _, _, _>(
-                memory, output, settings, others, reading, source, sink,
-            )
+            let mut group: ReplayGroup<GapPlacer> = memory.begin(settings, others, reading)?;
+            sum_up(memory, &mut group, output, source, sink)
         }
     }
 }
 
 /// Takes a trace, and writes the text of its end.
-// not inlined, so that other commands do not touch the pages of its buffers on the stack
-#[inline(never)]
 fn sum_up<T: TracePrinter, M: TraceMemory, S: Source, W: Sink>(
     memory: &mut M,
+    taker: &mut T,
     output: ReplayOutput<'_>,
-    settings: Settings,
-    others: &[Policy],
-    reading: Reading,
     source: &mut S,
     sink: &mut W,
 ) -> Result<Summary, Fault>
-    requires settings { T.IsFor settings }
-    requires few { length others.now ≤ 7 }
-    requires memory { M.has_failed memory.old ≡ false }
+    requires goes_on { T.is_over taker.old ≡ false }
     requires source { (S.state source.old).has_failed ≡ false }
     requires sink { (W.state sink.old).has_failed ≡ false }
     ensures sums_up { OnStreams (S.state source.old) (S.state source.new) (W.state sink.old) (W.state sink.new)
-        (SumsUp (T.Takes (T.begun settings others.now reading)) T.ran_out (T.text output.entry)) result }
+        (SumsUp (T.Takes taker.old) T.ran_out (T.text output.entry)) result }
     ensures starved { result ≡ Err Fault.Memory → (W.state sink.new).taken ≡ (W.state sink.old).taken }
     ensures allocates { (result ≡ Err Fault.Memory) ↔ (M.has_failed memory.new ≡ true) }
     ensures end { IsEnd false (S.state source.new) (W.state sink.old) (W.state sink.new) result }
 {
-    let mut taker: T = memory.begin(settings, others, reading)?;
-    let summary = memory.take(&mut taker, source, &mut Discard)?;
+    let summary = memory.take(taker, source, &mut Discard)?;
     if taker.has_run_out() {
         return Err(Fault::Memory);
     }
@@ -170,30 +166,23 @@ fn sum_up<T: TracePrinter, M: TraceMemory, S: Source, W: Sink>(
     Ok(summary)
 }
 
-/// Replays a trace, and writes its series.
-// not inlined, so that other commands do not touch the pages of its buffers on the stack
-#[inline(never)]
-fn sample<T: TracePrinter, M: TraceMemory, S: Source, W: Sink>(
+/// Takes a trace, and writes its series.
+fn write_series<T: TracePrinter, M: TraceMemory, S: Source, W: Sink>(
     memory: &mut M,
+    taker: &mut T,
     output: ReplayOutput<'_>,
-    settings: Settings,
-    others: &[Policy],
-    reading: Reading,
     source: &mut S,
     sink: &mut W,
 ) -> Result<Summary, Fault>
-    requires settings { T.IsFor settings }
-    requires few { length others.now ≤ 7 }
-    requires memory { M.has_failed memory.old ≡ false }
+    requires goes_on { T.is_over taker.old ≡ false }
     requires source { (S.state source.old).has_failed ≡ false }
     requires sink { (W.state sink.old).has_failed ≡ false }
     ensures samples { OnStreams (S.state source.old) (S.state source.new) (W.state sink.old) (W.state sink.new)
-        (Samples (T.Takes (T.begun settings others.now reading)) T.ran_out (T.text output.entry)) result }
+        (Samples (T.Takes taker.old) T.ran_out (T.text output.entry)) result }
     ensures allocates { (result ≡ Err Fault.Memory) ↔ (M.has_failed memory.new ≡ true) }
     ensures end { IsEnd false (S.state source.new) (W.state sink.old) (W.state sink.new) result }
 {
-    let mut taker: T = memory.begin(settings, others, reading)?;
-    let summary = memory.take(&mut taker, source, sink)?;
+    let summary = memory.take(taker, source, sink)?;
     if taker.has_run_out() {
         return Err(Fault::Memory);
     }
@@ -202,28 +191,21 @@ fn sample<T: TracePrinter, M: TraceMemory, S: Source, W: Sink>(
 }
 
 /// Takes a trace, and writes its script.
-// not inlined, so that other commands do not touch the pages of its buffers on the stack
-#[inline(never)]
-fn script<T: TraceTaker, M: TraceMemory, S: Source, W: Sink>(
+fn write_script<T: TraceTaker, M: TraceMemory, S: Source, W: Sink>(
     memory: &mut M,
-    settings: Settings,
-    others: &[Policy],
-    reading: Reading,
+    taker: &mut T,
     source: &mut S,
     sink: &mut W,
 ) -> Result<Summary, Fault>
-    requires settings { T.IsFor settings }
-    requires few { length others.now ≤ 7 }
-    requires memory { M.has_failed memory.old ≡ false }
+    requires goes_on { T.is_over taker.old ≡ false }
     requires source { (S.state source.old).has_failed ≡ false }
     requires sink { (W.state sink.old).has_failed ≡ false }
     ensures scripts { OnStreams (S.state source.old) (S.state source.new) (W.state sink.old) (W.state sink.new)
-        (Scripts (T.Takes (T.begun settings others.now reading)) T.ran_out) result }
+        (Scripts (T.Takes taker.old) T.ran_out) result }
     ensures allocates { (result ≡ Err Fault.Memory) ↔ (M.has_failed memory.new ≡ true) }
     ensures end { IsEnd false (S.state source.new) (W.state sink.old) (W.state sink.new) result }
 {
-    let mut taker: T = memory.begin(settings, others, reading)?;
-    let summary = memory.take(&mut taker, source, sink)?;
+    let summary = memory.take(taker, source, sink)?;
     if taker.has_run_out() {
         return Err(Fault::Memory);
     }

@@ -17,11 +17,11 @@ returns-in_err-write_end-clause-sums_up g c = λ errors errors_now.
     let source_now = g.S.Source.state c.take.new.source in
     let sink = g.W.Sink.state c.args.sink.now in
     let sink_now = g.W.Sink.state c.write_end.new.sink in
-    on_devices (SumsUp (g.T.TraceTaker.Takes (g.T.TraceTaker.begun c.args.settings c.args.others.now c.args.reading)) g.T.TraceTaker.ran_out (g.T.TracePrinter.text c.args.output)
+    on_devices (SumsUp (g.T.TraceTaker.Takes c.args.taker.now) g.T.TraceTaker.ran_out (g.T.TracePrinter.text c.args.output)
     (traffic_on source source_now sink sink_now errors errors_now)) c.from_residual-in_err-write_end.result (Err Write) (told.1 ∙ ap Err (told.2 ∙ ap fault_of is_write)) (
       c.in_ok-summary.summary,
-      writes_end (λ old. g.T.TraceTaker.Takes old source.unread source_now.unread None None) g.T.TraceTaker.ran_out (g.T.TracePrinter.text c.args.output) (TakesPrefix sink.taken sink_now.taken)
-          c.in_ok-summary.summary _ c.in_ok-taker.taker c.take.new.taker c.has_run_out.result c.in_ok-taker.ensures.begins c.in_ok-summary.ensures.takes c.has_run_out.ensures
+      writes_end (g.T.TraceTaker.Takes c.args.taker.now source.unread source_now.unread None None) g.T.TraceTaker.ran_out (g.T.TracePrinter.text c.args.output) (TakesPrefix sink.taken sink_now.taken)
+          c.in_ok-summary.summary c.take.new.taker c.has_run_out.result c.in_ok-summary.ensures.takes c.has_run_out.ensures
           c.if-has_run_out.false c.in_err-write_end.ensures.sends.err,
     )
 
@@ -31,5 +31,5 @@ returns-clause-sums_up g c = λ errors errors_now.
     let source_now = g.S.Source.state c.take.new.source in
     let sink = g.W.Sink.state c.args.sink.now in
     let sink_now = g.W.Sink.state c.write_end.new.sink in
-    writes_end (λ old. g.T.TraceTaker.Takes old source.unread source_now.unread None None) g.T.TraceTaker.ran_out (g.T.TracePrinter.text c.args.output) (Appends sink.taken sink_now.taken)
-    _ _ _ c.take.new.taker c.has_run_out.result c.in_ok-taker.ensures.begins c.in_ok-summary.ensures.takes c.has_run_out.ensures c.if-has_run_out.false c.in_ok-write_end.ensures.sends.ok
+    writes_end (g.T.TraceTaker.Takes c.args.taker.now source.unread source_now.unread None None) g.T.TraceTaker.ran_out (g.T.TracePrinter.text c.args.output) (Appends sink.taken sink_now.taken)
+    _ c.take.new.taker c.has_run_out.result c.in_ok-summary.ensures.takes c.has_run_out.ensures c.if-has_run_out.false c.in_ok-write_end.ensures.sends.ok
