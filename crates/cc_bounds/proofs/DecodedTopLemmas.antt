@@ -1,5 +1,5 @@
 -- The top of a word, found from its base and the distance from B up to T.
-use Rattle.std.proofs.Common.{◌≡◌, ℕ, ◌+◌, ◌-◌, ◌*◌, ◌<◌, ◌≤◌, ◌%◌, ◌^◌, ◌∙◌, arith, inl, inr, bit_and}
+use Rattle.std.proofs.Common.{◌≡◌, ℕ, ◌+◌, ◌-◌, ◌*◌, ◌<◌, ◌≤◌, ◌%◌, ◌^◌, ◌∙◌, sym, arith, inl, inr, bit_and}
 use Rattle.std.proofs.Math.Nat.{mod-eq_of_lt}
 use Rattle.std.proofs.lemmas.Nat.{and_mask}
 use Rattle.std.proofs.lemmas.Bool.{cases_lt}
@@ -77,15 +77,23 @@ large_base e low place large small scaled =
     ]
 
 -- the bounds from exponent 51 up: the mask keeps 65 bits of the shifted sum
-pub large_decodes : (fields : Fields) (base length scale sum : ℕ) → IsDecodedBase fields base → length < 2 ^ 13
+pub large_decodes : (fields : Fields) (length scale low sum : ℕ) → length < 2 ^ 13
     → IsTopMantissa fields ((base_mantissa fields + length) % 2 ^ 14) → scale ≡ stored_exponent fields → 51 ≤ scale
-    → sum ≡ base_mantissa fields + length
-    → DecodesTo fields (record { base = base; top = bit_and (sum * 2 ^ scale % 2 ^ 128) (2 ^ 65 - 1) })
-large_decodes fields base length scale sum is_base fits is_mantissa is_scale large is_sum =
-    let top : ℕ = (base_mantissa fields + length) * 2 ^ stored_exponent fields in
+    → low ≡ base_mantissa fields → sum ≡ low + length
+    → DecodesTo fields (record { base = low * 2 ^ scale % 2 ^ 64; top = bit_and (sum * 2 ^ scale % 2 ^ 128) (2 ^ 65 - 1) })
+large_decodes fields length scale low sum fits is_mantissa is_scale large is_low is_sum =
+    let e : ℕ = stored_exponent fields in
+    let own = (one-span fields).has.is_base in
+    let large_exponent : 51 ≤ e = rw is_scale at large in
+    let base : IsDecodedBase fields (base_mantissa fields * 2 ^ e % 2 ^ 64) =
+    record {
+      place = own.place;
+      is_place = own.is_place;
+      kept = sym (large_base e (base_mantissa fields) own.place large_exponent (stored_exponent-le fields) own.is_place.scaled);
+    } in
+    let top : ℕ = (base_mantissa fields + length) * 2 ^ e in
     let kept : top % 2 ^ 128 % 2 ^ 65 ≡ top % 2 ^ 65 = omega arith in
     record {
-      is_base = is_base;
-      is_top =
-          rw (and_mask _ 65, is_sum, is_scale, kept) (large_top fields base length is_base fits is_mantissa (rw is_scale at large));
+      is_base = rw (is_low, is_scale) base;
+      is_top = rw (and_mask _ 65, is_sum, is_low, is_scale, kept) (large_top fields _ length base fits is_mantissa large_exponent);
     }

@@ -112,15 +112,15 @@ fn decoded_base(fields: &Fields, exponent: u64) -> u64
     (above_start & !MANTISSA_BITS).wrapping_add(mantissa) << exponent
 }
 
-/// Returns the bounds of a word whose exponent is at most 50 and whose base is this: T is as far
-/// above B as the mantissas are apart.
+/// Returns the bounds of a word whose exponent is at most 50: T is as far above B as the mantissas
+/// are apart.
 #[inline(always)]
-fn small_bounds(fields: &Fields, exponent: u64, base: u64) -> Span
+fn small_bounds(fields: &Fields, exponent: u64) -> Span
     requires is_exponent { exponent ≡ stored_exponent fields.now }
     requires small { exponent < 51 }
-    requires is_base { IsDecodedBase fields.now base }
     ensures { DecodesTo fields.now result }
 {
+    let base = decoded_base(fields, exponent);
     let size = mantissa_length(fields) << exponent;
     Span {
         base,
@@ -128,18 +128,18 @@ fn small_bounds(fields: &Fields, exponent: u64, base: u64) -> Span
     }
 }
 
-/// Returns the bounds of a word whose exponent is at least 51 and whose base is this: its window has
-/// at least 2^65 bytes, so that the mantissas give all bits of the top.
+/// Returns the bounds of a word whose exponent is at least 51: its window has at least 2^65 bytes,
+/// so that the mantissas give all bits.
 #[inline(always)]
-fn large_bounds(fields: &Fields, exponent: u64, base: u64) -> Span
+fn large_bounds(fields: &Fields, exponent: u64) -> Span
     requires is_exponent { exponent ≡ stored_exponent fields.now }
     requires large { 51 ≤ exponent }
-    requires is_base { IsDecodedBase fields.now base }
     ensures { DecodesTo fields.now result }
 {
-    let end = u128::from(base_mantissa(fields) + mantissa_length(fields));
+    let mantissa = base_mantissa(fields);
+    let end = u128::from(mantissa + mantissa_length(fields));
     Span {
-        base,
+        base: mantissa << exponent,
         top: (end << exponent) & 0x1_ffff_ffff_ffff_ffff,
     }
 }
@@ -171,11 +171,10 @@ pub fn decode(fields: &Fields) -> Span
     // The word's own address is representable for its bounds.
     ensures representable { IsRepresentable result.base (stored_exponent fields.now) fields.now.address }
 {
-    let exponent = exponent_field(fields).min(MAX_EXPONENT);
-    let base = decoded_base(fields, exponent);
+    let exponent = exponent_field(fields);
     if exponent < FIRST_LARGE_EXPONENT {
-        small_bounds(fields, exponent, base)
+        small_bounds(fields, exponent)
     } else {
-        large_bounds(fields, exponent, base)
+        large_bounds(fields, exponent.min(MAX_EXPONENT))
     }
 }

@@ -3,6 +3,6 @@ use Rattle.cc_bounds.proofs.decoding.large_bounds.Goals as goal
 
 pub returns : goal.returns
 returns c =
-    large_decodes c.args.fields.now c.args.base c.mantissa_length.result c.args.exponent c.from-end.result c.requires.is_base
+    large_decodes c.args.fields.now c.mantissa_length.result c.args.exponent c.base_mantissa-mantissa.result c.from-end.result
     c.mantissa_length.ensures.fits c.mantissa_length.ensures.top c.requires.is_exponent c.requires.large
-    (rw c.base_mantissa.ensures at c.from-end.ensures)
+    c.base_mantissa-mantissa.ensures c.from-end.ensures
