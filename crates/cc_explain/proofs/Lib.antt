@@ -13,3 +13,4 @@ pub mod CorrectionLemmas
 pub mod StepLemmas
 mod RequestLemmas
 mod TextLemmas
+mod RowLemmas

@@ -1,7 +1,7 @@
 -- The addresses of the entries of an input, and their column.
 use Rattle.std.specs.Prelude.{ℕ, zero, suc, ◌+◌, ◌%◌, ◌^◌, List, [], ◌++◌, Option, None, Some, codes, option_map, is_some, if◌then◌else◌}
 use Rattle.cc_word.specs.WordText.{hexadecimal}
-use Rattle.cc_explain.specs.Row.{header_text, padded}
+use Rattle.cc_explain.specs.Row.{header_text, member_text, padded, quoted}
 use Rattle.cc_io.specs.declared.format.Format.{Format}
 use Rattle.cc_io.specs.declared.format.Format.TheVariants.{Columns, Csv, Fixed, Json, Text}
 use Rattle.cc_explain.specs.declared.options.Options.{Options}
@@ -26,7 +26,7 @@ place_of Columns address = hexadecimal address ++ codes " "
 place_of Text address = hexadecimal address ++ codes ": "
 place_of Fixed address = padded address ++ codes " "
 place_of Csv address = hexadecimal address ++ codes ","
-place_of Json address = codes "\"at\":\"" ++ hexadecimal address ++ codes "\","
+place_of Json address = member_text (codes "at") (quoted (hexadecimal address)) ++ codes ","
 
 -- The start of a line: the brace that opens an object, and otherwise nothing.
 abbrev pub opening_text : Format → List ℕ

@@ -1,5 +1,6 @@
 -- The reply to one word, on one line.
-use Rattle.std.specs.Prelude.{ℕ, List, [], ◌++◌, codes, decimal, Bool, true, if◌then◌else◌}
+use Rattle.std.specs.Prelude.{ℕ, List, [], ◌∷◌, ◌++◌, codes, decimal, Bool, true, if◌then◌else◌}
+use Rattle.std.specs.List.{join_with_byte}
 use Rattle.cc_word.specs.Word.{bit_of}
 use Rattle.cc_word.specs.WordText.{digits_of, hexadecimal}
 use Rattle.cc_word.specs.declared.fields.Fields.{Fields}
@@ -8,7 +9,6 @@ use Rattle.cc_bounds.specs.Decoding.{stored_exponent}
 use Rattle.cc_cap.specs.LineText.{IsWordLine}
 use Rattle.cc_io.specs.Text.{with_line_feed}
 use Rattle.cc_cap.specs.WordTelling.{TellsWord}
-use Rattle.cc_io.specs.Numbered.{with_digits, with_hexadecimal}
 use Rattle.cc_io.specs.Permissions.{permissions_array, permissions_text}
 use Rattle.cc_io.specs.declared.format.Format.{Format}
 use Rattle.cc_io.specs.declared.format.Format.TheVariants.{Columns, Csv, Fixed, Json, Text}
@@ -43,26 +43,44 @@ fixed_text word fields bounds canonical =
     ++ codes " " ++ digits_of 4 fields.perms ++ codes " " ++ decimal (bit_of fields.flag) ++ codes " " ++ digits_of 5 fields.otype
     ++ codes " " ++ digits_of 2 (stored_exponent fields) ++ codes " " ++ decimal (bit_of canonical)
 
--- The members of the object of a word: the word, and its permissions, reserved bits, flag and type.
-abbrev pub json_rights : (word : ℕ) (fields : Fields) → List ℕ
+-- A text between two quotation marks.
+abbrev pub quoted : List ℕ → List ℕ
+quoted text = codes "\"" ++ text ++ codes "\""
+
+-- A member of an object of JSON: its name in quotation marks, a colon and its value.
+abbrev pub member_text : (name value : List ℕ) → List ℕ
+member_text name value = quoted name ++ codes ":" ++ value
+
+-- The members of a word and its rights.
+abbrev pub json_rights : (word : ℕ) (fields : Fields) → List (List ℕ)
 json_rights word fields =
-    with_digits (codes "\"word\":\"") 32 word ++ with_digits (codes "\",\"perms\":\"") 4 fields.perms
-    ++ codes "\",\"names\":" ++ permissions_array fields.perms ++ codes ",\"reserved\":" ++ decimal fields.reserved
-    ++ codes ",\"flag\":" ++ decimal (bit_of fields.flag) ++ with_digits (codes ",\"type\":\"") 5 fields.otype
+    member_text (codes "word") (quoted (digits_of 32 word))
+    ∷ member_text (codes "perms") (quoted (digits_of 4 fields.perms))
+    ∷ member_text (codes "names") (permissions_array fields.perms)
+    ∷ member_text (codes "reserved") (decimal fields.reserved)
+    ∷ member_text (codes "flag") (decimal (bit_of fields.flag))
+    ∷ member_text (codes "type") (quoted (digits_of 5 fields.otype))
+    ∷ []
 
--- The members of the address, the exponent and the bounds.
-abbrev pub json_bounds : (fields : Fields) (bounds : Span) → List ℕ
+-- The members of its address, exponent and bounds. The address and the bounds are strings, since many
+-- readers of JSON round numbers from 2^53 up.
+abbrev pub json_bounds : (fields : Fields) (bounds : Span) → List (List ℕ)
 json_bounds fields bounds =
-    with_hexadecimal (codes "\",\"address\":\"") fields.address
-    ++ codes "\",\"exponent\":" ++ decimal (stored_exponent fields)
-    ++ with_hexadecimal (codes ",\"base\":\"") bounds.base ++ with_hexadecimal (codes "\",\"top\":\"") bounds.top
+    member_text (codes "address") (quoted (hexadecimal fields.address))
+    ∷ member_text (codes "exponent") (decimal (stored_exponent fields))
+    ∷ member_text (codes "base") (quoted (hexadecimal bounds.base))
+    ∷ member_text (codes "top") (quoted (hexadecimal bounds.top))
+    ∷ []
 
--- All members of the object of a word, and the brace that closes it. The address and the bounds are strings, since
--- many readers of JSON round numbers from 2^53 up.
+-- The member that says whether it is canonical.
+abbrev pub json_canonical : Bool → List ℕ
+json_canonical canonical = member_text (codes "canonical") (if canonical then codes "true" else codes "false")
+
+-- All members with commas between, and the brace that closes the object. The one that opens it is
+-- before the address of the line.
 abbrev pub json_text : (word : ℕ) (fields : Fields) (bounds : Span) (canonical : Bool) → List ℕ
 json_text word fields bounds canonical =
-    json_rights word fields ++ json_bounds fields bounds
-    ++ codes "\",\"canonical\":" ++ (if canonical then codes "true" else codes "false") ++ codes "}"
+    join_with_byte 44 (json_rights word fields ++ json_bounds fields bounds ++ json_canonical canonical ∷ []) ++ codes "}"
 
 -- IsWordRow holds if `row` is the reply to the word: its columns, the line of a tagged word, its
 -- columns in one width each, its comma-separated values, or the members of its object.

@@ -1,4 +1,5 @@
 //! The reply to one word, on one line.
+ghost use Rattle.std.specs.List.{join_with_byte};
 ghost use Rattle.std.specs.Prelude.{
   ◌≡◌,
   ◌≤◌,
@@ -243,7 +244,7 @@ fn push_json_members(batch: &mut Batch, word: u128, decoded: &Decoded, canonical
 {
     push_json_rights(batch, word, &decoded.fields);
     push_json_bounds(batch, decoded);
-    batch.push(b"\",\"canonical\":");
+    batch.push(b",\"canonical\":");
     if canonical {
         batch.push(b"true}");
     } else {
@@ -253,9 +254,9 @@ fn push_json_members(batch: &mut Batch, word: u128, decoded: &Decoded, canonical
 
 /// Appends the members of the word, its permissions, its reserved bits, its flag and its type.
 fn push_json_rights(batch: &mut Batch, word: u128, fields: &Fields)
-    requires { length batch.old + 262 ≤ 32768 }
-    ensures value { batch.new ≡ batch.old ++ json_rights word fields.now }
-    ensures fits { length batch.new ≤ length batch.old + 262 }
+    requires { length batch.old + 263 ≤ 32768 }
+    ensures value { batch.new ≡ batch.old ++ join_with_byte 44 (json_rights word fields.now) }
+    ensures fits { length batch.new ≤ length batch.old + 263 }
 {
     cc_io::push_digits(batch, b"\"word\":\"", word, 32);
     cc_io::push_digits(batch, b"\",\"perms\":\"", u128::from(fields.perms), 4);
@@ -266,6 +267,7 @@ fn push_json_rights(batch: &mut Batch, word: u128, fields: &Fields)
     batch.push(b",\"flag\":");
     push_decimal(batch, u8::from(fields.flag));
     cc_io::push_digits(batch, b",\"type\":\"", u128::from(fields.otype), 5);
+    push_byte(batch, b'"');
 }
 
 /// Appends the names of the permissions from bit 0 up, as an array.
@@ -279,21 +281,23 @@ fn push_names_array(batch: &mut Batch, perms: u16)
     batch.push(names.bytes());
 }
 
-/// Appends the members of the address, the exponent and the bounds.
+/// Appends the members of the address, the exponent and the bounds, after a comma.
 fn push_json_bounds(batch: &mut Batch, decoded: &Decoded)
     requires { length batch.old + 148 ≤ 32768 }
-    ensures value { batch.new ≡ batch.old ++ json_bounds decoded.now.fields decoded.now.bounds }
+    ensures value { batch.new ≡ batch.old
+        ++ (codes "," ++ join_with_byte 44 (json_bounds decoded.now.fields decoded.now.bounds)) }
     ensures fits { length batch.new ≤ length batch.old + 148 }
 {
     cc_io::push_hexadecimal(
         batch,
-        b"\",\"address\":\"",
+        b",\"address\":\"",
         u128::from(decoded.fields.address),
     );
     batch.push(b"\",\"exponent\":");
     push_decimal(batch, decoded.exponent);
     cc_io::push_hexadecimal(batch, b",\"base\":\"", u128::from(decoded.bounds.base));
     cc_io::push_hexadecimal(batch, b"\",\"top\":\"", decoded.bounds.top);
+    push_byte(batch, b'"');
 }
 
 /// Appends the address and the names of the permissions, with a comma before each.
