@@ -1,4 +1,5 @@
 //! Slots, a planner of objects, and the operations on them.
+use crate::GapPlacer;
 use crate::derivations::{
     rebuilt, sealed, unsealed, with_address, with_bounds, with_exact_bounds, with_flag,
     with_increment, with_perms,
@@ -8,7 +9,6 @@ use crate::owners::{is_freed, is_swept};
 use crate::slot::Slot;
 use cc_bounds::{Align, Len};
 use cc_cap::Cap;
-use crate::GapPlacer;
 use cc_plan::{ObjectId, Planner};
 use cc_values::{Op, Reply};
 use cc_word::Refusal;

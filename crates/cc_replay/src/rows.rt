@@ -5,9 +5,9 @@ ghost use Rattle.cc_replay.specs.Rows.{member_text, more_items, names_line, part
 ghost use Rattle.cc_replay.specs.Rows.{percent_text, reason_text, row_text, table_rows};
 ghost use Rattle.cc_replay.specs.Rows.{separator_of, table_end, table_heading, table_text, value_text, values_line};
 
+use crate::SampleReason;
 use crate::policy_text::push_policy;
 use crate::table::{Format, Part, Row, Value};
-use crate::SampleReason;
 use cc_io::{Line, Page};
 
 /// The maximum part of a percentage.

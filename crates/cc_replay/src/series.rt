@@ -5,10 +5,10 @@ ghost use Rattle.cc_replay.specs.Replay.{most_sample};
 ghost use Rattle.cc_replay.specs.Rows.{names_line, table_rows, values_line};
 ghost use Rattle.cc_replay.specs.Summary.{sample_rows};
 
-use crate::{SampleReason, row};
 use crate::rows::{push_names, push_values};
 use crate::summary::Figures;
 use crate::table::{Row, Value};
+use crate::{SampleReason, row};
 use cc_io::Page;
 
 /// The maximum number of bytes of a line of a series.

@@ -17,14 +17,14 @@ joined old address key exponent base top close a b c d e new p q r s t u = rw (u
 -- the members in the chunks in which they are written
 members : (fields : Fields) (bounds : Span)
     → with_hexadecimal (codes ",\"address\":\"") fields.address ++ (codes "\",\"exponent\":" ++ (decimal (stored_exponent fields)
-        ++ (with_hexadecimal (codes ",\"base\":\"") bounds.base ++ (with_hexadecimal (codes "\",\"top\":\"") bounds.top ++ (codes "\"")))))
+    ++ (with_hexadecimal (codes ",\"base\":\"") bounds.base ++ (with_hexadecimal (codes "\",\"top\":\"") bounds.top ++ (codes "\"")))))
     ≡ codes "," ++ join_with_byte 44 (json_bounds fields bounds)
 unfolding with_hexadecimal
 members fields bounds =
     ap (λ (text : List ℕ). codes ",\"address\":\"" ++ text)
     (quoted_next (hexadecimal fields.address) _ _
-      (ap (λ (text : List ℕ). codes ",\"exponent\":" ++ (decimal (stored_exponent fields) ++ (codes ",\"base\":\"" ++ text)))
-        (quoted_next (hexadecimal bounds.base) _ _ refl)))
+    (ap (λ (text : List ℕ). codes ",\"exponent\":" ++ (decimal (stored_exponent fields) ++ (codes ",\"base\":\"" ++ text)))
+    (quoted_next (hexadecimal bounds.base) _ _ refl)))
 
 pub returns-clause-value : goal.returns-clause-value
 returns-clause-value c =

@@ -18,8 +18,8 @@ joined old word perms key names reserved number flag bit otype close a b c d e f
 -- the members in the chunks in which they are written
 members : (word : ℕ) (fields : Fields)
     → with_digits (codes "\"word\":\"") 32 word ++ (with_digits (codes "\",\"perms\":\"") 4 fields.perms ++ (codes "\",\"names\":" ++ (permissions_array fields.perms
-        ++ (codes ",\"reserved\":" ++ (decimal fields.reserved ++ (codes ",\"flag\":" ++ (decimal (bit_of fields.flag) 
-        ++ (with_digits (codes ",\"type\":\"") 5 fields.otype ++ (codes "\"")))))))))
+    ++ (codes ",\"reserved\":" ++ (decimal fields.reserved ++ (codes ",\"flag\":" ++ (decimal (bit_of fields.flag)
+    ++ (with_digits (codes ",\"type\":\"") 5 fields.otype ++ (codes "\"")))))))))
     ≡ join_with_byte 44 (json_rights word fields)
 unfolding with_digits
 members word fields =
