@@ -109,6 +109,28 @@ pub fn answer_on_process<
         ⊎ FindsTexts M.replay false (subcommand_of app (texts words.now))) }
     ensures ends { EndsByArguments M.replay (texts words.now) (λ kinds. EndsOn kinds result) }
 {
+    match answer_on_devices(rt, memory, terminals, words, reason) {
+        Ok(ending) => ending,
+        Err(error) => tell(rt, &error),
+    }
+}
+
+/// Executes the arguments of a command line on the files and the standard streams of the process, as `answer_words`
+/// does.
+fn answer_on_devices<R: AllocGlobal + Files + Input + Print + Eprint, M: RunMemory + ReplaySupport>(
+    rt: &R,
+    memory: &mut M,
+    terminals: Terminals,
+    words: &[&str],
+    reason: &Reason,
+) -> Result<Ending, Error>
+    requires { M.has_failed memory.old ≡ false }
+    ensures accepted { IfOk result (λ end. end ≢ ending.Refused) }
+    ensures kinds { EndsByArguments M.replay (texts words.now) (λ kinds. FailsBy kinds result) }
+    ensures refused { IfErr result (λ error. (app : App) × IsProgram app × (is_taken app (texts words.now) ≡ true
+        → (kind_of error ≡ ErrorKind.OutOfMemory)
+        ⊎ FindsTexts M.replay false (subcommand_of app (texts words.now)))) }
+{
     let mut inputs = ProcessInputs::new(
         rt,
         terminals.input && terminals.errors,
@@ -118,7 +140,7 @@ pub fn answer_on_process<
     let mut source = no_input();
     let mut sink = FromWriter::new(Noting::new(output_of(rt, words), reason));
     let mut errors = FromWriter::new(ErrorWriter { to: rt });
-    match answer_words(
+    answer_words(
         memory,
         terminals,
         words,
@@ -126,10 +148,7 @@ pub fn answer_on_process<
         &mut source,
         &mut sink,
         &mut errors,
-    ) {
-        Ok(ending) => ending,
-        Err(error) => tell(rt, &error),
-    }
+    )
 }
 
 /// Returns a writer of standard output. It has a buffer if the words name `--svg`, since a drawing is written in many

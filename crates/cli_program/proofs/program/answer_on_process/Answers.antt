@@ -12,8 +12,8 @@ returns-in-Ok-clause-ends g c =
     ends_by_other g.M.ReplaySupport.replay (texts c.args.words.now) (λ kinds. kinds ≡ []) (λ kinds. EndsOn kinds c.in-Ok.ending)
     (λ kinds none. inl (none, c.in-Ok.ensures.accepted)) c.in-Ok.ensures.kinds
 
-pub returns-clause-refused : goal.returns-clause-refused
-returns-clause-refused g c = λ is_refused.
+pub returns-in-Err-clause-refused : goal.returns-in-Err-clause-refused
+returns-in-Err-clause-refused g c = λ is_refused.
     let told = c.in-Err.ensures.refused in (
       told.0,
       told.1,
@@ -21,7 +21,7 @@ returns-clause-refused g c = λ is_refused.
           (refused_not_for_memory (kind_of c.in-Err.error) c.tell.result c.tell.ensures is_refused),
     )
 
-pub returns-clause-ends : goal.returns-clause-ends
-returns-clause-ends g c =
+pub returns-in-Err-clause-ends : goal.returns-in-Err-clause-ends
+returns-in-Err-clause-ends g c =
     ends_by_other g.M.ReplaySupport.replay (texts c.args.words.now) (λ kinds. HasKind kinds c.in-Err.error) (λ kinds. EndsOn kinds c.tell.result)
     (λ kinds told. ends_by_error kinds c.in-Err.error c.tell.result told c.tell.ensures) c.in-Err.ensures.kinds
