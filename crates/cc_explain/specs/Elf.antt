@@ -10,13 +10,15 @@ abbrev pub number_of : Width → ByteOrder → (bytes : List ℕ) → ℕ
 number_of width Little bytes = from_le_bytes width bytes
 number_of width Big bytes = from_be_bytes width bytes
 
--- The numbers of 2, 4 and 8 bytes at a place.
+-- The number of 2 bytes at a place.
 abbrev pub half_at : ByteOrder → (bytes : List ℕ) → (place : ℕ) → ℕ
 half_at order bytes place = number_of w16 order (take 2 (drop place bytes))
 
+-- The number of 4 bytes at a place.
 abbrev pub word_at : ByteOrder → (bytes : List ℕ) → (place : ℕ) → ℕ
 word_at order bytes place = number_of w32 order (take 4 (drop place bytes))
 
+-- The number of 8 bytes at a place.
 abbrev pub xword_at : ByteOrder → (bytes : List ℕ) → (place : ℕ) → ℕ
 xword_at order bytes place = number_of w64 order (take 8 (drop place bytes))
 

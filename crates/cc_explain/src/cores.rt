@@ -9,7 +9,7 @@ ghost use Rattle.cc_explain.specs.Output.{refusal_line};
 
 use crate::decoder::{Decoder, syntax_refusal, unfinished_refusal};
 use crate::decoding::{header, place_name};
-use crate::elf::{ENTRY, Segment, elf_order, is_loaded, segment_count, segment_of, table_of};
+use crate::elf::{ENTRY, elf_order, is_loaded, segment_count, segment_of, table_of};
 use crate::options::{Options, Search};
 use crate::writers::Batch;
 use cc_io::{
@@ -43,7 +43,7 @@ impl<'a> Source for Rest<'a> {
 /// words at multiples of 16 in its loaded segments, in the order of their table. A search lists only the words that
 /// it finds.
 ///
-/// A core file is an ELF64 file of either byte order with fewer than 65,535 segments. For another one, writes
+/// A core file is an ELF64 file of either byte order with a table of fewer than 65,535 segments. For another, writes
 /// `error 1 syntax`. If the file ends before its table or a loaded segment does, writes `error 2 unfinished` after the
 /// words that it has. Both are errors. Flushes the sink. Allocates nothing.
 ///

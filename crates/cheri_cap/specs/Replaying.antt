@@ -1,8 +1,7 @@
 -- The command `replay` of the program.
 use Rattle.std.specs.Borrow.{Bor}
-use Rattle.std.specs.Prelude.{◌≡◌, Bool, List, Option, Result, is_ok}
+use Rattle.std.specs.Prelude.{◌≡◌, List, Option, Result, is_ok}
 use Rattle.clap.specs.Words.{Text}
-use Rattle.cc_bounds.specs.declared.align.Align.{Align}
 use Rattle.cc_replay.specs.declared.reading.Reading.{Reading}
 use Rattle.cc_heap.specs.declared.policy.Policy.{Policy}
 use Rattle.cc_heap.specs.declared.settings.Settings.{Settings}

@@ -2,7 +2,6 @@
 ghost use Rattle.std.specs.Prelude.{◌≡◌, false};
 ghost use Rattle.cheri_cap.specs.Replaying.{IsReplay, with_replay};
 
-use cc_bounds::Align;
 use cc_io::{Sink, Source, Summary};
 use cc_machine::Machine;
 use cc_values::Usage;

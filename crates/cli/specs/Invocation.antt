@@ -1,5 +1,5 @@
 -- The command lines that are accepted, and the command that each requests.
-use Rattle.std.specs.Prelude.{cond, ⊤, true, false, ◌≡◌, ◌≤◌, ◌⊎◌, ◌↔◌, ◌&&◌, ◌||◌, ℕ, Bool, IsTrue, not, List, [], ◌∷◌, Option, Some, None, IfSome, IsSome, is_ok, is_some, codes, option_map, unwrap_or, Result, Ok, if◌then◌else◌}
+use Rattle.std.specs.Prelude.{cond, ⊤, true, false, ◌≡◌, ◌≤◌, ◌&&◌, ◌||◌, ℕ, Bool, not, List, [], ◌∷◌, Option, Some, None, IfSome, IsSome, is_ok, is_some, codes, option_map, unwrap_or, Result, Ok, if◌then◌else◌}
 use Rattle.std.specs.Borrow.{Bor}
 use Rattle.std.specs.Option.{option_map_or}
 use Rattle.std.specs.Str.{bytes_eq}
@@ -248,13 +248,13 @@ abbrev pub list_fault_of : List Row → Option ErrorKind
 list_fault_of rows =
     list_fault (is_some (first_of (codes "list") rows)) (is_some (first_of (codes "length") rows)) (is_read address_in (first_of (codes "base") rows))
 
--- The kind of error of the given values, if there is one: `--elf` excludes the options of raw words, `--tags` requires `--bytes`, and the
+-- The kind of error of the given values, if there is one: `--elf` excludes the options of other inputs, `--tags` requires `--bytes`, and the
 -- others are read.
 abbrev pub search_fault : (has_elf is_raw has_tags has_bytes is_read : Bool) → Option ErrorKind
 search_fault has_elf is_raw has_tags has_bytes is_read =
     if has_elf && is_raw then Some ArgumentConflict else if has_tags && not has_bytes then Some MissingRequiredArgument else value_fault is_read
 
--- Whether an option of raw words is given, which says their order, their place or their tags.
+-- Whether an option of other inputs is given, which says their order, their place or their tags.
 abbrev pub has_raw : List Row → Bool
 has_raw rows =
     is_some (first_of (codes "bytes") rows) || (is_some (first_of (codes "skip") rows) || (is_some (first_of (codes "count") rows)

@@ -382,9 +382,10 @@ the skipped bytes, and 16 more for each further word.
 
 With --elf, lists the words of each loaded segment (PT_LOAD) that an ELF64 file has bytes of, as --at
 does, in the order of its table and the byte order of its header: each 16 bytes at an address that is
-a multiple of 16. The file is first read into memory as a whole. For a file that is not ELF64, or has
-over 65534 segments, prints `error 1 syntax`; for one that ends before its segments do, the words
-that it has, and then `error 2 unfinished`. It excludes --bytes, --skip, --count, --at and --tags.
+a multiple of 16. The file is first read into memory as a whole. For one that is not ELF64, or has no
+table of segments, or over 65534 of them, prints `error 1 syntax`; for one that ends before its table
+or a loaded segment does, the words that it has, and then `error 2 unfinished`. It excludes --bytes,
+--skip, --count, --at and --tags.
 
 With --holds, --perms or --unsealed, lists only words that could be capabilities, since raw memory has
 no tags: they are canonical, as 22 in 100 random words are, or a sentry that is once it is unsealed;

@@ -128,7 +128,7 @@ fn show_fault(show: &ArgMatches<'_>) -> Option<ErrorKind>
     }
 }
 
-/// Returns the kind of error of the values of `decode`, if there is one: `--elf` excludes the options of raw words,
+/// Returns the kind of error of the values of `decode`, if there is one: `--elf` excludes the options of other inputs,
 /// `--tags` requires `--bytes`, and numbers and permissions are of their form.
 fn search_fault(decode: &ArgMatches<'_>) -> Option<ErrorKind>
     ensures { result ≡ search_fault_of (rows_of (found_of decode.now)) }
@@ -148,7 +148,7 @@ fn search_fault(decode: &ArgMatches<'_>) -> Option<ErrorKind>
     )
 }
 
-/// Returns whether an option of raw words is given.
+/// Returns whether an option of other inputs is given.
 fn has_raw(decode: &ArgMatches<'_>) -> bool
     ensures { result ≡ has_raw (rows_of (found_of decode.now)) }
 {

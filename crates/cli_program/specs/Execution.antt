@@ -1,6 +1,6 @@
 -- The effect of each command on its devices: the program's own theorem.
 use Rattle.std.specs.Borrow.{Bor}
-use Rattle.std.specs.Prelude.{ℕ, ◌≡◌, false, IsSome, IsTrue, Bool, [], List, ⊤, None, Option, Result, Ok, Err, Some}
+use Rattle.std.specs.Prelude.{ℕ, ◌≡◌, false, IsTrue, Bool, [], List, ⊤, None, Option, Result, Ok, Err, Some}
 use Rattle.std.specs.Option.{option_map}
 use Rattle.std.specs.Result.{result_ok}
 use Rattle.clap.specs.Words.{Text}
@@ -123,7 +123,7 @@ effect_of replay terminals (Decode input format values file) = record {
   input = Some (record { input = file_input file; content = content.Words; tags = values.tags });
   Does = DecodesInput values.elf input format values (file_input file);
   Starves = λ console. TakesMemory values × WritesNothing console;
-  Reports = IsTrue terminals.errors;
+  Reports = IsTrue terminals.errors × (values.elf ≡ false);
 }
 effect_of replay terminals (Annotate file) = reads (file_input file) content.Words AnnotatesWords (λ console. ⊥) ⊥
 effect_of replay terminals (RoundList base file) =

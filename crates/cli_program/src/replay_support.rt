@@ -7,7 +7,6 @@ ghost use Rattle.cli.specs.Input.{OpensFile};
 ghost use Rattle.cli.specs.Invocation.{kinds_in, value_fault};
 ghost use Rattle.cli_program.specs.Execution.{IsUnasked, ReplayCommand, no_replay};
 
-use cc_bounds::Align;
 use cc_io::{Sink, Summary, write_refusal};
 use cc_word::Refusal;
 use clap::error::ErrorKind;

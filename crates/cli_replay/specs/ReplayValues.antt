@@ -1,12 +1,11 @@
 -- The heap and the reading that the arguments of `replay` request.
-use Rattle.std.specs.Prelude.{ℕ, Bool, ◌^◌, ◌==◌, nat_lt, codes, length, List, ◌++◌, ◌∷◌, [], Option, Some, None, Result, Ok, Err, zero, suc, if◌then◌else◌}
+use Rattle.std.specs.Prelude.{ℕ, ◌^◌, ◌==◌, nat_lt, codes, length, List, ◌++◌, ◌∷◌, [], Option, Some, None, Result, Ok, Err, zero, suc, if◌then◌else◌}
 use Rattle.std.specs.Borrow.{Bor}
 use Rattle.std.specs.Str.{bytes_eq}
 use Rattle.std.specs.List.{after_first, before_first, position_or_len, slice_split}
 use Rattle.clap.specs.Words.{Text}
 use Rattle.cc_word.specs.declared.refusal.Refusal.{Refusal}
 use Rattle.cc_word.specs.declared.refusal.Refusal.TheVariants.{OutOfRange, Syntax}
-use Rattle.cc_bounds.specs.declared.align.Align.{Align}
 use Rattle.cc_bounds.specs.declared.span.Span.{Span}
 use Rattle.cc_values.specs.Values.{address_in, both}
 use Rattle.cc_syntax.specs.Request.{request_in}

@@ -1,6 +1,5 @@
 -- The output of `replay`, by its trace.
-use Rattle.std.specs.Prelude.{ℕ, Bool, ⊤, List, [], ◌∷◌, Option, Some, Result, MatchResult}
-use Rattle.cc_bounds.specs.declared.align.Align.{Align}
+use Rattle.std.specs.Prelude.{ℕ, ⊤, List, [], ◌∷◌, Option, Some, Result, MatchResult}
 use Rattle.cc_io.specs.Correct.{Pumps}
 use Rattle.cc_io.specs.Frames.{lines}
 use Rattle.cc_io.specs.declared.summary.IoError.{IoError}

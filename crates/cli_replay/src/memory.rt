@@ -8,7 +8,6 @@ ghost use Rattle.cli_replay.specs.ReplayValues.{replay_in};
 
 use crate::mistakes::check_values;
 use crate::takers::TraceTaker;
-use cc_bounds::Align;
 use cc_io::{IoError, Sink, Source, Summary};
 use cc_replay::{Policy, Reading, Settings};
 use clap::Error;

@@ -7,7 +7,6 @@ ghost use Rattle.cli_replay.specs.ReplayValues.{replay_in};
 use crate::replay_values::{
     format_of, least_of, others_of, output_of, policy_of, pool_of, realloc_of, replay_of,
 };
-use cc_bounds::Align;
 use clap::error::ErrorKind;
 use clap::{Command, Error};
 use cli::{ReplayOutput, ReplayValues, SummaryFormat};

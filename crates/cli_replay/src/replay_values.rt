@@ -25,7 +25,7 @@ ghost use Rattle.cli_replay.specs.ReplayValues.{
   sweep_given,
 };
 
-use cc_bounds::{Align, Span};
+use cc_bounds::Span;
 use cc_replay::{Policy, Reading, Reallocation, Settings, Share, TraceFormat, read_policy};
 use cc_syntax::{both, read_address, read_request};
 use cc_values::split_at_first;

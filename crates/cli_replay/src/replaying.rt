@@ -13,7 +13,6 @@ use crate::charting::Charting;
 use crate::memory::TraceMemory;
 use crate::replay_values::replay_of;
 use crate::takers::{TracePrinter, TraceTaker};
-use cc_bounds::Align;
 use cc_io::{Sink, Source, Summary, write_refusal};
 use cc_machine::GapPlacer;
 use cc_replay::{Policy, Reading, Replay, ReplayGroup, Script, Settings};

@@ -25,7 +25,7 @@ use Rattle.cli_words.specs.BareDigits.{is_bare}
 use Rattle.cli_words.specs.NumberHint.{after_base, hint_if}
 use Rattle.cli_words.specs.Questions.{address_of}
 use Rattle.cli_words.specs.Listing.{options_of, part_of, search_of}
-use Rattle.cli_words.specs.Tasks.{DecodesInput, ListsCoreFile, ListsInput, ListsWords, RoundsLengths, SeesLengths}
+use Rattle.cli_words.specs.Tasks.{DecodesInput, GaveAll, ListsCoreFile, ListsInput, ListsWords, RoundsLengths, SeesLengths}
 use Rattle.cli.specs.declared.fault.Fault.{Fault}
 use Rattle.cli.specs.declared.fault.Fault.TheVariants as fault
 use Rattle.cli.specs.declared.input.InputName.{InputName}
@@ -78,7 +78,7 @@ decodes_core elf form format values search name input console result on is_searc
 
 -- The listing of the bytes that were read.
 pub lists_read : (format : Format) (search : Option Search) (file items : List ℕ) (input : InputName) (console : Console) (io : Result Summary IoError)
-    → file ≡ items → IfSome (console.input input) (λ bytes. items ≡ bytes) → ListsCore format search file console.output console.output_now io
+    → file ≡ items → GaveAll (console.input input) console.source_now items → ListsCore format search file console.output console.output_now io
     → ListsCoreFile input format search console io
 lists_read format search file items input console io same read lists =
     inr (items, read, subst (λ (l : List ℕ). ListsCore format search l console.output console.output_now io) same lists)

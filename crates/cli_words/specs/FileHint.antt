@@ -1,6 +1,6 @@
--- The hints on a file of words by its first bytes: an ELF file, as a core file is, that is decoded as raw words from its first byte
+-- The hints on a file of words by its first bytes: an ELF64 file, as a core file is, that is decoded as raw words from its first byte
 -- on, and lines that end in CR LF.
-use Rattle.std.specs.Prelude.{ℕ, Bool, ◌==◌, ◌||◌, List, [], ◌∷◌, Option, None, Some, codes, drop, if◌then◌else◌}
+use Rattle.std.specs.Prelude.{ℕ, Bool, ◌==◌, ◌||◌, List, [], ◌∷◌, ◌++◌, Option, None, Some, codes, drop, if◌then◌else◌}
 use Rattle.std.specs.Borrow.{Bor}
 use Rattle.std.specs.List.{starts_with}
 use Rattle.clap.specs.Words.{Text}
@@ -9,9 +9,9 @@ use Rattle.cc_io.specs.declared.input_form.InputForm.TheVariants.{Bytes, Lines}
 use Rattle.cli.specs.declared.input.InputName.{InputName}
 use Rattle.cli.specs.declared.input.InputName.TheVariants.{File}
 
--- Whether a file that begins with these bytes is an ELF file.
+-- Whether a file that begins with these bytes is an ELF file of class 64.
 abbrev pub is_elf : (start : List ℕ) → Bool
-is_elf start = starts_with (λ one other. one == other) start (127 ∷ codes "ELF")
+is_elf start = starts_with (λ one other. one == other) start (127 ∷ codes "ELF" ++ 2 ∷ [])
 
 -- Whether these bytes are CR LF and any others.
 abbrev pub is_cr_lf : List ℕ → Bool

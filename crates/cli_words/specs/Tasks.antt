@@ -22,7 +22,8 @@ use Rattle.cc_explain.specs.Correct.{Lists}
 use Rattle.cli.specs.declared.invocation.DecodeValues.{DecodeValues}
 use Rattle.cli.specs.declared.question.Base.{Base}
 use Rattle.cli.specs.declared.question.Question.{Question}
-use Rattle.cli.specs.Devices.{Console, FromInput, Traffic}
+use Rattle.cc_io.specs.Devices.{InputState}
+use Rattle.cli.specs.Devices.{Console, FromInput, GivesAll, Traffic}
 use Rattle.cli.specs.declared.input.InputName.{InputName}
 use Rattle.cli.specs.declared.input.InputName.TheVariants.{File}
 use Rattle.cli_words.specs.Listing.{options_of, part_of, search_of}
@@ -53,12 +54,16 @@ abbrev pub ListsInput : (tags : Option (Bor Text)) (input : InputName) (part : P
 ListsInput None input part options console result = FromInput input console (ListsWords part (options None)) result
 ListsInput (Some path) input part options console result = ListsTagged (File path) input part (λ bits. options (Some bits)) console result
 
+-- GaveAll holds if an input, whose bytes are these if they are known, gave these bytes and has no more.
+abbrev pub GaveAll : (known : Option (List ℕ)) (source_now : InputState) (bytes : List ℕ) → Type 0
+GaveAll known source_now bytes = (source : InputState) × IfSome known (λ all. source.unread ≡ Some all) × GivesAll source source_now bytes
+
 -- ListsCoreFile holds if the listing of the file that the input gave was written, up to a failure; or reading it failed, and nothing was
 -- written.
 abbrev pub ListsCoreFile : (input : InputName) → Format → Option Search → Console → Result Summary IoError → Type 0
 ListsCoreFile input format search console result =
     ((result ≡ Err Read) × (console.output_now.taken ≡ console.output.taken))
-    ⊎ ((bytes : List ℕ) × IfSome (console.input input) (λ known. bytes ≡ known) × ListsCore format search bytes console.output console.output_now result)
+    ⊎ ((bytes : List ℕ) × GaveAll (console.input input) console.source_now bytes × ListsCore format search bytes console.output console.output_now result)
 
 -- DecodesInput holds if the listing that `decode` requests was written, up to a failure: with `--elf`, that of a core file.
 abbrev pub DecodesInput : (elf : Bool) → InputForm → Format → DecodeValues → (input : InputName) → Console → Result Summary IoError → Type 0

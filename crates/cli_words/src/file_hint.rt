@@ -7,11 +7,11 @@ ghost use Rattle.cli_words.specs.FileHint.{whole_file};
 use cc_io::{InputForm, Sink, write_all};
 use cli::{InputName, Inputs};
 
-/// Returns whether a file that begins with these bytes is an ELF file.
+/// Returns whether a file that begins with these bytes is an ELF file of class 64.
 fn is_elf(start: &[u8]) -> bool
     ensures { result ≡ is_elf start.now }
 {
-    start.starts_with(b"\x7fELF")
+    start.starts_with(b"\x7fELF\x02")
 }
 
 /// Returns whether CR LF comes at this position.

@@ -4,7 +4,7 @@ ghost use Rattle.cli.specs.Devices.{FromInput, IsEnd, OnDevices, OnOutput, conso
 ghost use Rattle.cli.specs.Input.{AreUnasked, IsFile, OpensFile, file_input};
 ghost use Rattle.cli_words.specs.Listing.{options_of, part_of};
 ghost use Rattle.cli_words.specs.Tasks.{AnnotatesWords, DecodesInput, ListsCoreFile, ListsWords, RoundsLengths};
-ghost use Rattle.cli_words.specs.Tasks.{SeesLengths, TakesMemory};
+ghost use Rattle.cli_words.specs.Tasks.{GaveAll, SeesLengths, TakesMemory};
 
 use crate::file_hint::hint_file;
 use crate::length_list::round_list;
@@ -16,9 +16,9 @@ use cc_io::{Sink, Summary};
 use cli::{Base, Content, DecodeValues, Fault, InputName, Inputs, Memory, file_input};
 
 /// Writes a row for each listed word of the part of the input that FILE names, of the tagged ones if there is a file of
-/// tags, which is read first, or of the segments of a core file, which is read as a whole. Then writes the hint on an
-/// ELF file, or on lines that end in CR LF, to `errors`, if hints are given and a file was decoded from its first byte
-/// on.
+/// tags, which is read first, or of the segments of a core file, which is read as a whole. Then, except with `elf`,
+/// writes the hint on an ELF64 file, or on lines that end in CR LF, to `errors`, if hints are given and a file was
+/// decoded from its first byte on.
 ///
 /// Requires: no device has failed.
 /// Errors: `Open` if the input or the file of the tags cannot be opened, and nothing was written then; `Memory` if the
@@ -43,7 +43,7 @@ pub fn decode_file<M: Memory, I: Inputs, W: Sink, E: Sink>(
     requires errors { (E.state errors.old).has_failed ≡ false }
     ensures decodes { OnOutput (I.bytes_of inputs.old) (I.Opened.state source.new) (W.state sink.old) (W.state sink.new)
         (DecodesInput values.entry.elf input format values.entry (file_input file.entry)) result }
-    ensures silent { ¬ IsTrue hints → errors.new ≡ errors.old }
+    ensures silent { ¬ (IsTrue hints × (values.entry.elf ≡ false)) → errors.new ≡ errors.old }
     ensures unreported { OnErr result (errors.new ≡ errors.old) }
     ensures open { result ≡ Err Fault.Open → OpensFile values.entry.tags (file_input file.entry) }
     ensures allocates { (result ≡ Err Fault.Memory) ↔ (M.has_failed memory.new ≡ true) }
@@ -124,6 +124,8 @@ fn read_input<M: Memory, I: Inputs>(
 ) -> Result<Vec<u8>, Fault>
     requires memory { M.has_failed memory.old ≡ false }
     ensures reads { IfOk result (λ read. IfSome (I.bytes_of inputs.old input.entry) (λ bytes. read.items ≡ bytes)) }
+    ensures gave { IfOk result (λ read. GaveAll (I.bytes_of inputs.old input.entry) (I.Opened.state source.new)
+        read.items) }
     ensures kept { I.bytes_of inputs.new ≡ I.bytes_of inputs.old }
     ensures open { (result ≡ Err Fault.Open) ↔ (I.has_refused inputs.new ≡ true) }
     ensures named { result ≡ Err Fault.Open → IsFile input.entry }

@@ -1,4 +1,4 @@
-use Rattle.std.proofs.Common.{Err, Ok, ◌∙◌, ap}
+use Rattle.std.proofs.Common.{Err, ◌∙◌, ap}
 use Rattle.std.proofs.lemmas.Result.{err_from_is_err_and}
 use Rattle.cli.specs.Devices.{Console, console_of}
 use Rattle.cli_words.specs.Tasks.{ListsCoreFile}
@@ -15,4 +15,4 @@ returns-in_err-decode_core-in-Ok-clause-lists g c = λ errors errors_now.
     on_devices (ListsCoreFile c.args.input c.args.format c.args.search console) c.from_residual.result
     (Err c.in_err-decode_core-in-Ok.field-0.0) (told.1 ∙ ap Err told.2)
     (lists_read c.args.format c.args.search c.as_slice.result.now c.in-Ok.bytes.items c.args.input console (Err c.in_err-decode_core-in-Ok.field-0.0)
-    c.as_slice.ensures.value c.in-Ok.ensures.reads c.in_err-decode_core-in-Ok.ensures.lists)
+    c.as_slice.ensures.value c.in-Ok.ensures.gave c.in_err-decode_core-in-Ok.ensures.lists)

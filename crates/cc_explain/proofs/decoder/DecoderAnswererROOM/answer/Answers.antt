@@ -1,5 +1,4 @@
 use Rattle.std.proofs.Common.{ℕ, Option, ap₂}
-use Rattle.cc_explain.specs.declared.options.Options.{Options}
 use Rattle.cc_explain.specs.declared.options.Tags.{Tags}
 use Rattle.cc_explain.proofs.AnswerLemmas.{is_answer}
 use Rattle.cc_explain.proofs.decoder.DecoderAnswererROOM.answer.Goals as goal
