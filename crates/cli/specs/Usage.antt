@@ -95,8 +95,8 @@ with_heap_options command =
 abbrev pub replay_command : (aligns summaries : Bor (List (Bor Text))) → App
 replay_command aligns summaries =
     let heap = with_heap_options (with_rule (with_rule (new_app (codes "replay")) (valued_option (codes "format"))) (choice_option (codes "align") aligns)) in
-    let told = with_rule (with_rule heap (flag_option (codes "strict"))) (choice_option (codes "summary") summaries) in
-    let chosen = with_rule (with_rule told (valued_option (codes "each"))) (flag_option (codes "sizes")) in
+    let summed = with_rule (with_rule heap (flag_option (codes "strict"))) (choice_option (codes "summary") summaries) in
+    let chosen = with_rule (with_rule summed (valued_option (codes "each"))) (flag_option (codes "sizes")) in
     let drawn = with_rule (with_rule chosen (flag_option (codes "svg"))) (flag_option (codes "script")) in
     with_rule drawn (optional_argument (codes "file"))
 
@@ -149,16 +149,12 @@ with_scripts program aligns =
     let runs = with_subcommand (with_subcommand program run_command.top) (plan_command aligns).top in
     with_subcommand runs (map_command aligns).top
 
--- The program with all commands except `explain`.
-abbrev pub listed_commands : (aligns formats orders summaries : Bor (List (Bor Text))) → App
-listed_commands aligns formats orders summaries =
-    let replay = with_subcommand (with_scripts (with_words bare_program formats) aligns) (replay_command aligns summaries).top in
-    let words = with_subcommand replay (decode_command formats orders).top in
-    with_subcommand words annotate_command.top
-
 -- The whole program, if `--align`, `--format`, `--bytes` and `--summary` accept these strings.
 abbrev pub program : (aligns formats orders summaries : Bor (List (Bor Text))) → App
-program aligns formats orders summaries = with_subcommand (listed_commands aligns formats orders summaries) explain_command.top
+program aligns formats orders summaries =
+    let replay = with_subcommand (with_scripts (with_words bare_program formats) aligns) (replay_command aligns summaries).top in
+    let words = with_subcommand replay (decode_command formats orders).top in
+    with_subcommand (with_subcommand words annotate_command.top) explain_command.top
 
 -- IsProgram holds if `app` is the whole program. `--align` accepts 1 and 16, `--format` the names
 -- of the formats, `--bytes` those of the byte orders, and `--summary` those of the formats of a
@@ -194,13 +190,9 @@ kind_rule choices Summary name = choice_option name choices.summaries
 abbrev pub argument_of : Choices → Row → Rule
 argument_of choices row = kind_rule choices row.kind row.name.now
 
--- A command with the arguments of rows added.
-abbrev pub with_arguments : Choices → App → List Row → App
-with_arguments choices app rows = fold (λ a row. with_rule a (argument_of choices row)) app rows
-
--- The command of a row.
+-- The command of a row: one with the arguments of its rows added.
 abbrev pub command_of : Choices → CommandRow → App
-command_of choices row = with_arguments choices (new_app row.name.now) row.rows.now
+command_of choices row = fold (λ a it. with_rule a (argument_of choices it)) (new_app row.name.now) row.rows.now
 
 -- A program with the commands of rows added.
 abbrev pub with_commands : Choices → App → List CommandRow → App

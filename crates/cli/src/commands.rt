@@ -1,14 +1,12 @@
 //! The program and its commands, as clap reads them.
-ghost use Rattle.std.specs.Prelude.{◌≡◌, IfOk, codes, false};
+ghost use Rattle.std.specs.Prelude.{◌≡◌, IfOk, false};
 ghost use Rattle.clap.specs.Words.{app_of, new_app};
 ghost use Rattle.clap.specs.declared.builder.command.Command.TheViews.{out-Command};
-ghost use Rattle.cli.specs.Usage.{bare_program, command_of, explain_command, program, with_arguments};
+ghost use Rattle.cli.specs.Usage.{bare_program, command_of, program};
 
 use crate::arguments::argument;
-use crate::help::{
-    ABOUT, AFTER_HELP, EXPLAIN_ABOUT, EXPLAIN_AFTER_HELP, EXPLAIN_USAGE, VERSION, about, after_help,
-};
-use crate::table::{Choices, CommandRow, Row, commands, explain_rows};
+use crate::help::{ABOUT, AFTER_HELP, Page, VERSION, about, after_help, usage};
+use crate::table::{Choices, CommandRow, commands};
 use clap::Command;
 use std::alloc::{AllocError, Global};
 
@@ -37,8 +35,7 @@ pub fn program<'a>(
         let added = command(alloc, row, choices)?;
         program = program.subcommand(added)?;
     }
-    let explain = explain_command(alloc)?;
-    program.subcommand(explain)
+    Ok(program)
 }
 
 /// Returns the command that a row describes.
@@ -50,51 +47,9 @@ fn command<'a>(
     ensures shape { IfOk result (λ command. app_of command ≡ command_of choices.entry row.now) }
     ensures local { IfOk result (λ command. (out-Command command).has_globals ≡ false) }
 {
-    with_arguments(
-        alloc,
-        bare_command(alloc, row.name, about(row.page), after_help(row.page)),
-        row.rows,
-        choices,
-    )
-}
-
-/// Returns the command `explain [--svg] [--length N] [--base B] [WORD]`.
-///
-/// Errors: `AllocError` if an allocation fails.
-pub fn explain_command<'a>(alloc: Global) -> Result<Command<'a>, AllocError>
-    ensures shape { IfOk result (λ command. app_of command ≡ explain_command) }
-    ensures local { IfOk result (λ command. (out-Command command).has_globals ≡ false) }
-{
-    let choices = Choices {
-        aligns: &[],
-        formats: &[],
-        orders: &[],
-        summaries: &[],
-    };
-    let bare = bare_command(alloc, "explain", EXPLAIN_ABOUT, EXPLAIN_AFTER_HELP);
-    with_arguments(
-        alloc,
-        bare.override_usage(EXPLAIN_USAGE),
-        explain_rows(),
-        choices,
-    )
-}
-
-/// Returns the command with these arguments added.
-fn with_arguments<'a>(
-    alloc: Global,
-    bare: Command<'a>,
-    rows: &[Row<'a>],
-    choices: Choices<'a>,
-) -> Result<Command<'a>, AllocError>
-    requires { (out-Command bare).has_globals ≡ false }
-    ensures shape { IfOk result (λ command. app_of command ≡ with_arguments choices.entry (app_of bare.entry)
-        rows.now) }
-    ensures local { IfOk result (λ command. (out-Command command).has_globals ≡ false) }
-{
-    let mut command = bare;
-    for row in rows {
-        command = command.arg(argument(alloc, row, choices))?;
+    let mut command = bare_command(alloc, row.name, row.page);
+    for it in row.rows {
+        command = command.arg(argument(alloc, it, choices))?;
     }
     Ok(command)
 }
@@ -103,29 +58,26 @@ fn with_arguments<'a>(
 fn bare_program<'a>(alloc: Global) -> Result<Command<'a>, AllocError>
     ensures { IfOk result (λ command. app_of command ≡ bare_program) }
 {
-    Ok(
-        Command::new(alloc, "cheri-cap")
-            .bin_name("cheri-cap")?
-            .version(VERSION)
-            .about(ABOUT)
-            .after_long_help(AFTER_HELP)
-            .arg_required_else_help(true)
-            .subcommand_required(true)
-            .disable_help_subcommand(true),
-    )
+    Command::new(alloc, "cheri-cap")
+        .version(VERSION)
+        .about(ABOUT)
+        .after_long_help(AFTER_HELP)
+        .arg_required_else_help(true)
+        .subcommand_required(true)
+        .disable_help_subcommand(true)
+        .bin_name("cheri-cap")
 }
 
 /// Returns a command before its arguments are added.
-fn bare_command<'a>(
-    alloc: Global,
-    name: &'a str,
-    about: &'a str,
-    after_help: &'a str,
-) -> Command<'a>
+fn bare_command<'a>(alloc: Global, name: &'a str, page: Page) -> Command<'a>
     ensures shape { app_of result ≡ new_app name.now }
     ensures local { (out-Command result).has_globals ≡ false }
 {
-    Command::new(alloc, name)
-        .about(about)
-        .after_long_help(after_help)
+    let bare = Command::new(alloc, name)
+        .about(about(page))
+        .after_long_help(after_help(page));
+    match usage(page) {
+        Some(usage) => bare.override_usage(usage),
+        None => bare,
+    }
 }

@@ -22,9 +22,6 @@ pub(crate) const SHOW_USAGE: &str = "cheri-cap show [OPTIONS] <WORD>";
 /// The message if the values of `show` do not go together.
 pub(crate) const SHOW_CHOICE: &str = "give either `--line` or `--format`";
 
-pub(crate) const EXPLAIN_ABOUT: &str =
-    "Explains how a capability word is decoded, step by step, or which bounds a request is granted";
-
 pub(crate) const EXPLAIN_USAGE: &str = "\
 cheri-cap explain [--svg] <WORD>
        cheri-cap explain --length <N> [--base <B>]";
@@ -32,31 +29,6 @@ cheri-cap explain [--svg] <WORD>
 /// The message if the values of `explain` do not go together.
 pub(crate) const EXPLAIN_CHOICE: &str =
     "give either WORD and optionally `--svg`, or `--length N` and optionally `--base B`";
-
-pub(crate) const EXPLAIN_AFTER_HELP: &str = "\
-For a WORD, prints its fields, its exponent, granule and mantissas, its window, its base and top, and
-whether it is canonical, and if not the reason. At every address in the window, a canonical word has
-the same bounds. A picture of the window follows: 64 cells, eight for each of its eight sections. `#`
-marks the cells with bytes of the bounds, and B, T and A mark the cells of the base, top and address.
-A WORD may have 0x before its digits. For input that is not a word, prints `error 1 syntax`, with exit
-status 1. With --svg, prints only a drawing of the window, with its sections, the bounds and the
-address.
-
-For N bytes at B, prints: the granule, the unit in which their bounds are stored, and why half of it
-is too small; the granted bounds; the bytes lost before and after; the length and the alignment of
-the base that lose none; the word of the root capability with these bounds. Prints `error 1 syntax`
-if N is not a number, `error 4 range` if it is too large, and `error 9 bounds` if B + N is above
-2^64, with exit status 1.
-
-Example:
-  cheri-cap explain --length 8191 --base 0x10068
-  request   0x1fff bytes, from 0x10068 to 0x12067
-  granule   0x10 bytes: the request touches 513 of them, and at most 1023 can be counted
-  half      0x8 bytes: the request touches 1024 of them, and that is too many
-  granted   0x2010 bytes, from 0x10060 to 0x12070
-  lost      0x8 bytes before the request, and 0x9 behind it
-  exact     0x2000 bytes, at a base that is a multiple of 0x10
-  word      ffff0000000f80350000000000010068";
 
 pub(crate) const ROUND_USAGE: &str = "\
 cheri-cap round [--base <B>] <N>
@@ -146,6 +118,8 @@ pub(crate) enum Page {
     Annotate,
     /// The command `replay`.
     Replay,
+    /// The command `explain`.
+    Explain,
 }
 
 /// Returns the help of an argument.
@@ -250,6 +224,16 @@ pub(crate) fn about<'a>(page: Page) -> &'a str {
             "Copies text, and inserts the one-line form of each capability word after it",
         Page::Replay =>
             "Replays the trace of an allocator on a heap with exact bounds, and prints the heap's numbers",
+        Page::Explain =>
+            "Explains how a capability word is decoded, step by step, or which bounds a request is granted",
+    }
+}
+
+/// Returns the usage of a command, if it is not the one that follows from its arguments.
+pub(crate) fn usage<'a>(page: Page) -> Option<&'a str> {
+    match page {
+        Page::Explain => Some(EXPLAIN_USAGE),
+        _ => None,
     }
 }
 
@@ -471,5 +455,29 @@ Example:
   line,event,time,made.asked,objects,asked,live,quarantine,held,peak.quarantine,peak.held,high,sweeps,why
   2,2,0,8291,2,8291,8292,0,8292,0,8292,8304,0,each
   3,3,0,8291,1,8191,8192,100,8292,100,8292,8304,0,end",
+        Page::Explain => "\
+For a WORD, prints its fields, its exponent, granule and mantissas, its window, its base and top, and
+whether it is canonical, and if not the reason. At every address in the window, a canonical word has
+the same bounds. A picture of the window follows: 64 cells, eight for each of its eight sections. `#`
+marks the cells with bytes of the bounds, and B, T and A mark the cells of the base, top and address.
+A WORD may have 0x before its digits. For input that is not a word, prints `error 1 syntax`, with exit
+status 1. With --svg, prints only a drawing of the window, with its sections, the bounds and the
+address.
+
+For N bytes at B, prints: the granule, the unit in which their bounds are stored, and why half of it
+is too small; the granted bounds; the bytes lost before and after; the length and the alignment of
+the base that lose none; the word of the root capability with these bounds. Prints `error 1 syntax`
+if N is not a number, `error 4 range` if it is too large, and `error 9 bounds` if B + N is above
+2^64, with exit status 1.
+
+Example:
+  cheri-cap explain --length 8191 --base 0x10068
+  request   0x1fff bytes, from 0x10068 to 0x12067
+  granule   0x10 bytes: the request touches 513 of them, and at most 1023 can be counted
+  half      0x8 bytes: the request touches 1024 of them, and that is too many
+  granted   0x2010 bytes, from 0x10060 to 0x12070
+  lost      0x8 bytes before the request, and 0x9 behind it
+  exact     0x2000 bytes, at a base that is a multiple of 0x10
+  word      ffff0000000f80350000000000010068",
     }
 }

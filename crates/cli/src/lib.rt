@@ -22,7 +22,7 @@ mod table;
 mod values;
 mod watched;
 
-pub use commands::{explain_command, program};
+pub use commands::program;
 pub use discard::Discard;
 pub use error_writer::ErrorWriter;
 pub use fault::Fault;

@@ -1,7 +1,6 @@
 //! The commands and their arguments as rows of a table.
-ghost use Rattle.std.specs.Prelude.{◌≡◌, codes};
-ghost use Rattle.clap.specs.Words.{new_app};
-ghost use Rattle.cli.specs.Usage.{bare_program, explain_command, listed_commands, with_arguments, with_commands};
+ghost use Rattle.std.specs.Prelude.{◌≡◌};
+ghost use Rattle.cli.specs.Usage.{bare_program, program, with_commands};
 
 use crate::help::{Page, Topic};
 
@@ -58,7 +57,7 @@ pub(crate) struct CommandRow<'a> {
     pub(crate) rows: &'a [Row<'a>],
 }
 
-/// The commands except `explain`.
+/// The commands.
 const COMMANDS: &[CommandRow] = &[
     CommandRow {
         name: "show",
@@ -382,49 +381,44 @@ const COMMANDS: &[CommandRow] = &[
             topic: Topic::TextFile,
         }],
     },
+    CommandRow {
+        name: "explain",
+        page: Page::Explain,
+        rows: &[
+            Row {
+                kind: Kind::Flag,
+                name: "svg",
+                placeholder: "",
+                topic: Topic::WindowSvg,
+            },
+            Row {
+                kind: Kind::Valued,
+                name: "length",
+                placeholder: "N",
+                topic: Topic::RequestLength,
+            },
+            Row {
+                kind: Kind::Address,
+                name: "base",
+                placeholder: "B",
+                topic: Topic::RequestBase,
+            },
+            Row {
+                kind: Kind::Free,
+                name: "word",
+                placeholder: "WORD",
+                topic: Topic::Word,
+            },
+        ],
+    },
 ];
 
-/// The arguments of `explain`.
-const EXPLAIN_ROWS: &[Row] = &[
-    Row {
-        kind: Kind::Flag,
-        name: "svg",
-        placeholder: "",
-        topic: Topic::WindowSvg,
-    },
-    Row {
-        kind: Kind::Valued,
-        name: "length",
-        placeholder: "N",
-        topic: Topic::RequestLength,
-    },
-    Row {
-        kind: Kind::Address,
-        name: "base",
-        placeholder: "B",
-        topic: Topic::RequestBase,
-    },
-    Row {
-        kind: Kind::Free,
-        name: "word",
-        placeholder: "WORD",
-        topic: Topic::Word,
-    },
-];
-
-/// Returns the commands except `explain`.
+/// Returns the commands.
 pub(crate) fn commands<'a>() -> &'a [CommandRow<'a>]
-    ensures { (choices : Choices) → with_commands choices bare_program result.now ≡ listed_commands choices.aligns
+    ensures { (choices : Choices) → with_commands choices bare_program result.now ≡ program choices.aligns
         choices.formats choices.orders choices.summaries }
 {
     COMMANDS
-}
-
-/// Returns the arguments of `explain`.
-pub(crate) fn explain_rows<'a>() -> &'a [Row<'a>]
-    ensures { (choices : Choices) → with_arguments choices (new_app (codes "explain")) result.now ≡ explain_command }
-{
-    EXPLAIN_ROWS
 }
 
 /// Returns the arguments of the command of this name.
@@ -434,5 +428,5 @@ pub(crate) fn rows_named<'a>(name: &'a str) -> &'a [Row<'a>] {
             return command.rows;
         }
     }
-    EXPLAIN_ROWS
+    &[]
 }

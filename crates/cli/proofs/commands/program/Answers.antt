@@ -1,9 +1,8 @@
 use Rattle.std.proofs.Common.{◌≡◌, ◌∙◌, ap, ap₂, sym, arith}
 use Rattle.std.proofs.lemmas.List.{take_all}
 use Rattle.std.proofs.lemmas.List.Sums.{fold_more}
-use Rattle.std.proofs.lemmas.Result.{IfOk-weaker}
-use Rattle.clap.specs.Words.{App, app_of, with_subcommand}
-use Rattle.cli.specs.Usage.{bare_program, listed_commands, with_commands}
+use Rattle.clap.specs.Words.{App, with_subcommand}
+use Rattle.cli.specs.Usage.{bare_program, with_commands}
 use Rattle.cli.specs.declared.table.Choices.{Choices}
 use Rattle.cli.proofs.commands.program.Goals as goal
 
@@ -17,9 +16,4 @@ pub returns : goal.returns
 returns c =
     let choices : Choices = record { aligns = c.args.aligns; formats = c.args.formats; orders = c.args.orders; summaries = c.args.summaries } in
     let rows = c.commands-row-items.result.now in
-    let made : app_of c.loop-row.program ≡ listed_commands c.args.aligns c.args.formats c.args.orders c.args.summaries =
-    c.loop-row.invariant ∙ ap (with_commands choices bare_program) (take_all c.loop-row.row-index rows (omega arith)) ∙ c.commands-row-items.ensures choices in
-    let explain = c.in_ok-explain.ensures in
-    IfOk-weaker c.subcommand-2.result _ _
-    (λ more added. added.shape explain.local ∙ ap₂ (λ (a b : App). with_subcommand a b.top) made explain.shape)
-    c.subcommand-2.ensures
+    c.loop-row.invariant ∙ ap (with_commands choices bare_program) (take_all c.loop-row.row-index rows (omega arith)) ∙ c.commands-row-items.ensures choices
