@@ -1,5 +1,5 @@
 -- Arguments that clap accepts name one of the program's commands, and give it the values that it needs.
-use Rattle.std.proofs.Common.{◌≡◌, ◌==◌, ◌∙◌, ◌⊎◌, ℕ, Bool, true, false, List, [], ◌∷◌, Option, Some, None, arith, is_some, refl, subst, sym, ap, inl, inr, codes, get_or, if◌then◌else◌, option_map}
+use Rattle.std.proofs.Common.{◌≡◌, ◌==◌, ◌∙◌, ℕ, Bool, true, false, List, [], ◌∷◌, Option, Some, None, arith, is_some, refl, subst, sym, ap, codes, get_or, if◌then◌else◌, option_map}
 use Rattle.std.specs.Prelude.{⊤, ◌&&◌, ◌||◌, IfSome, IsSome, Result, Ok, Err, find, not, pos, unwrap_or}
 use Rattle.std.specs.Borrow.{Bor}
 use Rattle.std.specs.List.{list_any}
@@ -28,7 +28,7 @@ use Rattle.cc_io.specs.declared.format.Format.{Format}
 use Rattle.cc_io.specs.declared.format.Format.TheVariants.{Columns}
 use Rattle.cc_io.specs.declared.format.Format.TheVariants as format
 use Rattle.cli.specs.Invocation.{HasChoice, HasItsTexts, HasLimit, IsChosen, IsLimit, IsLimitText, choice_fault_in, align_named, decimal_value, format_named, format_names, program}
-use Rattle.cli.specs.Invocation.{slots_option, choice_option, input_named, order_names, flag_option, summary_named, summary_names}
+use Rattle.cli.specs.Invocation.{slots_option, choice_option, input_named, order_names, summary_named, summary_names}
 use Rattle.cli.specs.declared.invocation.SummaryFormat.{SummaryFormat}
 use Rattle.cli.specs.declared.invocation.SummaryFormat.TheVariants as summary
 use Rattle.cli.proofs.GivenLemmas.{GiveValues, GivesValue, IsTaken, flag_gives, level-given, level_parts, no_default-given, required_given, set_gives, taken}

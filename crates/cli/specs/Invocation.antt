@@ -6,7 +6,6 @@ use Rattle.std.specs.Str.{bytes_eq}
 use Rattle.std.specs.Str.Parse.{IsNumeral, digits_value, without_leading_plus}
 pub use Rattle.cli.specs.Usage.{IsProgram, choice_option, flag_option, format_names, order_names, program, slots_option, summary_names}
 use Rattle.clap.specs.Kinds.{or_else}
-use Rattle.clap.specs.Walk.{texts}
 use Rattle.clap.specs.Words.{App, Kinds, Row, Text, fault_of, first_of, one_of, subcommand_of, takes}
 use Rattle.clap.specs.declared.error.kind.ErrorKind.{ErrorKind}
 use Rattle.clap.specs.declared.error.kind.ErrorKind.TheVariants.{ArgumentConflict, MissingRequiredArgument, ValueValidation}

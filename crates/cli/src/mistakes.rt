@@ -22,7 +22,7 @@ pub(crate) fn mistake(
 {
     match matches.subcommand() {
         Some((name, values)) => mistake_of(alloc, name, values, kind),
-        None => Command::new(alloc, "cheri-cap").error(kind, ROUND_CHOICE),
+        None => error_with_usage(alloc, ROUND_USAGE, kind, ROUND_CHOICE),
     }
 }
 
@@ -35,12 +35,26 @@ fn mistake_of<'a>(
 ) -> Result<Error, AllocError>
     ensures { IfOk result (λ error. kind_of error ≡ kind) }
 {
-    let message = match kind {
-        ErrorKind::ValueValidation => value_message(alloc, values, rows_named(name))?,
-        _ => String::from_str(alloc, choice_message(name, kind))?,
-    };
-    let mut command = Command::new(alloc, "cheri-cap").override_usage(usage(name));
-    command.error(kind, message.as_str())
+    match kind {
+        ErrorKind::ValueValidation => {
+            let message = value_message(alloc, values, rows_named(name))?;
+            error_with_usage(alloc, usage(name), kind, message.as_str())
+        }
+        _ => error_with_usage(alloc, usage(name), kind, choice_message(name, kind)),
+    }
+}
+
+/// Returns the error of this kind with this message, and the usage of a command.
+fn error_with_usage<'a>(
+    alloc: Global,
+    usage: &'a str,
+    kind: ErrorKind,
+    message: &str,
+) -> Result<Error, AllocError>
+    ensures { IfOk result (λ error. kind_of error ≡ kind) }
+{
+    let mut command = Command::new(alloc, "cheri-cap").override_usage(usage);
+    command.error(kind, message)
 }
 
 fn usage<'a>(name: &'a str) -> &'a str {

@@ -47,8 +47,8 @@ fn parse_words<'a>(alloc: Global, words: &'a [&'a str]) -> Result<ArgMatches<'a>
         (app : App) × IsProgram app × (is_taken app (texts words.now) ≡ true → kind_of error ≡ ErrorKind.OutOfMemory)) }
     ensures kinds { (app : App) × IsProgram app × FailsBy (faults_of app (texts words.now)) result }
 {
-    let mut command = program(alloc, aligns(), formats(), orders(), summaries())?;
-    match command.try_get_matches_from_mut(words) {
+    let command = program(alloc, aligns(), formats(), orders(), summaries())?;
+    match command.try_get_matches_from(words) {
         Ok(matches) => chosen(alloc, matches),
         Err(error) => Err(error),
     }

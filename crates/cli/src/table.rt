@@ -423,7 +423,7 @@ pub(crate) fn commands<'a>() -> &'a [CommandRow<'a>]
 
 /// Returns the arguments of the command of this name.
 pub(crate) fn rows_named<'a>(name: &'a str) -> &'a [Row<'a>] {
-    for command in COMMANDS {
+    for command in commands() {
         if command.name == name {
             return command.rows;
         }

@@ -35,7 +35,7 @@ returns-in-Ok-clause-read c =
     let is_program = is_program_of c.aligns.result c.formats.result c.orders.result c.summaries.result c.aligns.ensures c.formats.ensures c.orders.ensures c.summaries.ensures in
     let faultless : fault_of app words ≡ [] = ap (λ (a : App). fault_of a words) (sym is) ∙ c.in-Ok.ensures.kinds (ap is_simple_and_free is) in
     let matches : subcommand_rows_of c.in-Ok.matches ≡ subcommand_of app words =
-    (c.in-Ok.ensures.ok.2 (ap is_simple is)).1 ∙ ap (λ (a : App). subcommand_of a words) is in
+    (c.in-Ok.ensures.matches (ap is_simple is)).1 ∙ ap (λ (a : App). subcommand_of a words) is in
     IfOk-weaker c.chosen.result _ _ (λ chosen told.
     let same : subcommand_rows_of chosen ≡ subcommand_of app words = ap subcommand_rows_of told.0 ∙ matches in (
       app,
@@ -53,13 +53,13 @@ returns-in-Ok-clause-refused c =
     let app : App = program c.aligns.result c.formats.result c.orders.result c.summaries.result in
     let is_program = is_program_of c.aligns.result c.formats.result c.orders.result c.summaries.result c.aligns.ensures c.formats.ensures c.orders.ensures c.summaries.ensures in
     let matches : subcommand_rows_of c.in-Ok.matches ≡ subcommand_of app words =
-    (c.in-Ok.ensures.ok.2 (ap is_simple is)).1 ∙ ap (λ (a : App). subcommand_of a words) is in
+    (c.in-Ok.ensures.matches (ap is_simple is)).1 ∙ ap (λ (a : App). subcommand_of a words) is in
     choice_refuses (choice_fault_in (subcommand_rows_of c.in-Ok.matches)) c.chosen.result
     (λ error. (app : App) × IsProgram app × (is_taken app words ≡ true → kind_of error ≡ OutOfMemory)) c.chosen.ensures.kinds
     (λ error told. (app, is_program, λ taken. told (ap choice_fault_in matches ∙ (taken_parts app words taken).1)))
 
-pub returns-clause-refused : goal.returns-clause-refused
-returns-clause-refused c =
+pub returns-in-Err-clause-refused : goal.returns-in-Err-clause-refused
+returns-in-Err-clause-refused c =
     let words : List Text = texts c.args.words.now in
     let app : App = program c.aligns.result c.formats.result c.orders.result c.summaries.result in
     let is_program = is_program_of c.aligns.result c.formats.result c.orders.result c.summaries.result c.aligns.ensures c.formats.ensures c.orders.ensures c.summaries.ensures in
@@ -83,12 +83,12 @@ returns-in-Ok-clause-kinds c =
     let is_program = is_program_of c.aligns.result c.formats.result c.orders.result c.summaries.result c.aligns.ensures c.formats.ensures c.orders.ensures c.summaries.ensures in
     let faultless : fault_of app words ≡ [] = ap (λ (a : App). fault_of a words) (sym is) ∙ c.in-Ok.ensures.kinds (ap is_simple_and_free is) in
     let matches : subcommand_rows_of c.in-Ok.matches ≡ subcommand_of app words =
-    (c.in-Ok.ensures.ok.2 (ap is_simple is)).1 ∙ ap (λ (a : App). subcommand_of a words) is in
+    (c.in-Ok.ensures.matches (ap is_simple is)).1 ∙ ap (λ (a : App). subcommand_of a words) is in
     let told = subst (λ (met : Option (Text × List Row)). FailsBy (kinds_in (choice_fault_in met)) c.chosen.result) matches c.chosen.ensures.kinds in
     (app, is_program, choice_fails app words c.chosen.result faultless told)
 
-pub returns-clause-kinds : goal.returns-clause-kinds
-returns-clause-kinds c =
+pub returns-in-Err-clause-kinds : goal.returns-in-Err-clause-kinds
+returns-in-Err-clause-kinds c =
     let words : List Text = texts c.args.words.now in
     let is = c.in_ok-command.ensures in
     let app : App = program c.aligns.result c.formats.result c.orders.result c.summaries.result in
