@@ -2,7 +2,7 @@
 ghost use Rattle.std.specs.Prelude.{◌≡◌, ◌≤◌, ◌+◌, ◌++◌, length, option_map};
 ghost use Rattle.cc_explain.specs.Place.{next_address, opening_text, place_of, place_text};
 
-use crate::writers::{Batch, push_byte, push_hexadecimal, push_padded};
+use crate::writers::{Batch, push_byte, push_padded};
 use cc_io::Format;
 
 /// The number of bytes of an entry in memory.
@@ -54,11 +54,11 @@ fn push_place_of(batch: &mut Batch, format: Format, address: u64)
     let address = u128::from(address);
     match format {
         Format::Columns => {
-            push_hexadecimal(batch, address);
+            batch.push_hexadecimal(address);
             push_byte(batch, b' ');
         }
         Format::Text => {
-            push_hexadecimal(batch, address);
+            batch.push_hexadecimal(address);
             batch.push(b": ");
         }
         Format::Fixed => {
@@ -66,12 +66,12 @@ fn push_place_of(batch: &mut Batch, format: Format, address: u64)
             push_byte(batch, b' ');
         }
         Format::Csv => {
-            push_hexadecimal(batch, address);
+            batch.push_hexadecimal(address);
             push_byte(batch, b',');
         }
         Format::Json => {
             batch.push(b"\"at\":\"");
-            push_hexadecimal(batch, address);
+            batch.push_hexadecimal(address);
             batch.push(b"\",");
         }
     }

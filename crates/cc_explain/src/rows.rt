@@ -25,9 +25,7 @@ ghost use Rattle.cc_explain.specs.Row.{columns_text, csv_text, fixed_text, json_
 ghost use Rattle.cc_explain.specs.Row.{values_text};
 
 use crate::places::push_place;
-use crate::writers::{
-    Batch, push_byte, push_byte_if, push_decimal, push_digits, push_hexadecimal, push_padded,
-};
+use crate::writers::{Batch, push_byte, push_byte_if, push_decimal, push_digits, push_padded};
 use bitflags::Flags;
 use cc_bounds::Span;
 use cc_cap::Decoded;
@@ -99,7 +97,7 @@ fn push_address_and_letters(batch: &mut Batch, fields: &Fields)
         ++ letters_of fields.now.perms }
     ensures fits { length batch.new ≤ length batch.old + 41 }
 {
-    push_hexadecimal(batch, u128::from(fields.address));
+    batch.push_hexadecimal(u128::from(fields.address));
     batch.push(b" [");
     push_letters(batch, Perms::from_bits_retain(fields.perms));
 }
@@ -307,7 +305,7 @@ fn push_address_and_names(batch: &mut Batch, address: u64, perms: u16)
     ensures fits { length batch.new ≤ length batch.old + 200 }
 {
     push_byte(batch, b',');
-    push_hexadecimal(batch, u128::from(address));
+    batch.push_hexadecimal(u128::from(address));
     push_byte(batch, b',');
     push_names(batch, perms);
 }
@@ -356,9 +354,9 @@ fn push_span(batch: &mut Batch, separator: u8, bounds: &Span)
         ++ hexadecimal bounds.now.top }
     ensures fits { length batch.new ≤ length batch.old + 69 }
 {
-    push_hexadecimal(batch, u128::from(bounds.base));
+    batch.push_hexadecimal(u128::from(bounds.base));
     push_byte(batch, separator);
-    push_hexadecimal(batch, bounds.top);
+    batch.push_hexadecimal(bounds.top);
 }
 
 /// Appends permissions, flag and type, with a separator before each.

@@ -1,9 +1,7 @@
 //! Bytes, digits and numbers appended to the page of replies.
-ghost use Rattle.std.specs.Prelude.{◌≡◌, ◌+◌, ◌≤◌, ◌<◌, ◌++◌, ◌∷◌, [], decimal, false, length, if◌then◌else◌};
-ghost use Rattle.std.specs.Fmt.{digits};
-ghost use Rattle.cc_word.specs.WordText.{digits_of, hexadecimal};
+ghost use Rattle.std.specs.Prelude.{◌≡◌, ◌+◌, ◌≤◌, ◌<◌, ◌++◌, ◌∷◌, [], decimal, length, if◌then◌else◌};
+ghost use Rattle.cc_word.specs.WordText.{digits_of};
 ghost use Rattle.cc_explain.specs.Row.{padded};
-ghost use Rattle.cc_io.proofs.DigitLemmas.{HasDigits};
 
 use cc_io::Page;
 use cc_word::write_half;
@@ -63,22 +61,6 @@ pub(crate) fn push_decimal(batch: &mut Batch, number: u8)
     batch.push(&[b'0' + number / 10 % 10, ones]);
 }
 
-/// Appends `0x` and a number's hexadecimal digits without leading zeros.
-#[inline(always)]
-pub(crate) fn push_hexadecimal(batch: &mut Batch, number: u128)
-    requires { length batch.old + 34 ≤ 32768 }
-    ensures value { batch.new ≡ batch.old ++ hexadecimal number }
-    ensures fits { length batch.new ≤ length batch.old + 34 }
-{
-    batch.push(b"0x");
-    if number < 1 << 64 {
-        push_significant(batch, number as u64);
-    } else {
-        push_significant(batch, (number >> 64) as u64);
-        batch.push(&write_half((number % (1 << 64)) as u64));
-    }
-}
-
 /// Appends `0x` and the last 17 hexadecimal digits of a number.
 #[inline(always)]
 pub(crate) fn push_padded(batch: &mut Batch, number: u128)
@@ -89,23 +71,4 @@ pub(crate) fn push_padded(batch: &mut Batch, number: u128)
     batch.push(b"0x");
     push_digits(batch, (number >> 64) as u64, 1);
     batch.push(&write_half((number % (1 << 64)) as u64));
-}
-
-/// Appends a number's hexadecimal digits without `0x` and leading zeros.
-#[inline(always)]
-fn push_significant(batch: &mut Batch, number: u64)
-    requires { length batch.old + 16 ≤ 32768 }
-    ensures value { batch.new ≡ batch.old ++ digits 16 false number }
-    ensures fits { length batch.new ≤ length batch.old + 16 }
-{
-    let count = digit_count(number);
-    batch.push(&write_half(number << (64 - 4 * count)));
-    batch.drop_last(16 - count);
-}
-
-/// Returns the number of hexadecimal digits of a number without leading zeros, 1 to 16.
-fn digit_count(number: u64) -> usize
-    ensures { HasDigits result number }
-{
-    ((67 - number.leading_zeros()) / 4).max(1) as usize
 }

@@ -342,9 +342,9 @@ impl<const N: usize> Page<N> {
         ensures value { self.new ≡ self.old ++ digits 16 false number }
         ensures fits { length self.new ≤ length self.old + 16 }
     {
-        let count = digit_count(number);
-        self.push(&write_half(number << (64 - 4 * count)));
-        self.drop_last(16 - count);
+        let zeros = leading_zeros(number);
+        self.push(&write_half(number << (4 * zeros)));
+        self.drop_last(zeros);
     }
 
     /// Removes the last `count` bytes.
@@ -382,12 +382,11 @@ fn second_pair(number: u32) -> u32
     number / 100 - number / 10_000 * 100
 }
 
-/// Returns the number of hexadecimal digits, without leading zeros.
-fn digit_count(number: u64) -> usize
-    ensures some { 1 ≤ result }
-    ensures most { result ≤ 16 }
-    ensures fits { number < 16 ^ result }
-    ensures least { 1 < result → 16 ^ (result - 1) ≤ number }
+/// Returns how many of the 16 hexadecimal digits of a number are leading zeros, at most 15.
+fn leading_zeros(number: u64) -> usize
+    ensures few { result < 16 }
+    ensures fits { number < 16 ^ (16 - result) }
+    ensures least { result < 15 → 16 ^ (15 - result) ≤ number }
 {
-    ((67 - number.leading_zeros()) / 4).max(1) as usize
+    ((number | 1).leading_zeros() / 4) as usize
 }

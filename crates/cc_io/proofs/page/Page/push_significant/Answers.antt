@@ -1,22 +1,21 @@
 use Rattle.std.proofs.Common.{◌≡◌, ◌∙◌, ◌-◌, ◌+◌, ap, arith, ℕ, List, ◌++◌, length, length-append, take}
 use Rattle.std.proofs.Math.Seq.{take-append-add}
 use Rattle.cc_word.proofs.DigitLemmas.{length-digits_of}
-use Rattle.cc_io.proofs.DigitLemmas.{HasDigits, digits-moved}
+use Rattle.cc_io.proofs.DigitLemmas.{HasZeros, digits-moved}
 use Rattle.cc_io.proofs.page.Page.push_significant.Goals as goal
 
 pub returns-clause-value : goal.returns-clause-value
 returns-clause-value g c =
     let line = c.args.self.now in
-    let count = c.digit_count-count.result in
+    let zeros = c.leading_zeros-zeros.result in
     let sixteen = c.write_half.result in
-    let of_count = c.digit_count-count.ensures in
-    let is : HasDigits count c.args.number = record { some = of_count.some; most = of_count.most; fits = of_count.fits; least = of_count.least } in
+    let counted = c.leading_zeros-zeros.ensures in
+    let is : HasZeros zeros c.args.number = record { few = counted.few; fits = counted.fits; least = counted.least } in
     let sized : length sixteen ≡ 16 = ap length c.write_half.ensures ∙ length-digits_of 16 _ in
-    let kept : length c.push.new.self - (16 - count) ≡ length line + count =
-    omega (arith, ap length c.push.ensures, length-append line sixteen, sized, of_count.most) in
-    let text = ap (λ (l : List ℕ). take count l) c.write_half.ensures ∙ digits-moved count c.args.number is in
+    let kept : length c.push.new.self - zeros ≡ length line + (16 - zeros) =
+    omega (arith, ap length c.push.ensures, length-append line sixteen, sized, is.few) in
     c.drop_last.ensures
     ∙ ap (λ (n : ℕ). take n c.push.new.self) kept
-    ∙ ap (λ (l : List ℕ). take (length line + count) l) c.push.ensures
-    ∙ take-append-add line sixteen count
-    ∙ ap (λ (l : List ℕ). line ++ l) text
+    ∙ ap (λ (l : List ℕ). take (length line + (16 - zeros)) l) c.push.ensures
+    ∙ take-append-add line sixteen (16 - zeros)
+    ∙ ap (λ (l : List ℕ). line ++ l) (ap (λ (l : List ℕ). take (16 - zeros) l) c.write_half.ensures ∙ digits-moved zeros c.args.number is)
