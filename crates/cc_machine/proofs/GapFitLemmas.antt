@@ -1,10 +1,10 @@
 -- The first start that fits a gap: among the gaps of a block, and among the gaps of blocks.
-use Rattle.std.proofs.Common.{ℕ, ◌≡◌, ◌+◌, ◌%◌, ◌<◌, ◌≤◌, Some, None, List, length, get_or, arith, sym, ap, ◌∙◌, inl, inr}
+use Rattle.std.proofs.Common.{ℕ, ◌≡◌, ◌%◌, ◌<◌, ◌≤◌, Some, None, List, length, get_or, arith, sym, ap, ◌∙◌, inl, inr}
 use Rattle.std.proofs.lemmas.Bool.{cases_eq, cases_lt}
 use Rattle.std.proofs.lemmas.List.{get_or_default}
 use Rattle.cc_bounds.specs.declared.span.Span.{Span}
 use Rattle.cc_bounds.specs.Span.{IsWithin, span_from}
-use Rattle.cc_machine.specs.Fit.{AreShort, IsFit, IsLeastFit}
+use Rattle.cc_machine.specs.Fit.{IsFit, IsLeastFit, LackFit}
 use Rattle.cc_machine.specs.Gaps.{AreGaps, FitsGap, IsFirstFit}
 
 -- ---- Among the gaps of a block.
@@ -24,22 +24,8 @@ bases_rise gaps i j d are low within =
           omega (arith, are.apart i j d (omega (arith, low, other)) within, (are.some i d (omega (arith, low, within))).not_empty)
     ]
 
--- no gap before a position has a fit
-abbrev pub NoneBefore : List Span → (to size align : ℕ) → Type 0
-NoneBefore gaps to size align =
-    (k : ℕ) (d : Span) → k < to → IsFit (get_or gaps k d).base (get_or gaps k d).top size align None
-
--- nor has one that is too short
-pub none_short : (gaps : List Span) (from at less align : ℕ) → NoneBefore gaps from (less + 1) align
-    → AreShort gaps from at less → NoneBefore gaps at (less + 1) align
-none_short gaps from at less align none short k d low =
-    elim (cases_lt k from) [
-      | inl before ↦ none k d before
-      | inr after ↦ λ other from_base _. omega (arith, short k d after low, from_base)
-    ]
-
 pub first_at : (gaps : List Span) (at : ℕ) (d : Span) (size align start : ℕ) → AreGaps gaps → at < length gaps
-    → NoneBefore gaps at size align → IsLeastFit (get_or gaps at d).base (get_or gaps at d).top size align start
+    → LackFit gaps at size align → IsLeastFit (get_or gaps at d).base (get_or gaps at d).top size align start
     → IsFirstFit gaps size align (Some start)
 first_at gaps at d size align start are within none fit = (
   record {

@@ -4,7 +4,7 @@ ghost use Rattle.std.specs.Prelude.{slice_set, All, Some, None, IfNone, IfSome, 
 ghost use Rattle.std.specs.List.{slice_index_or};
 ghost use Rattle.cc_bounds.specs.declared.span.Span.{Span as SpanSpec};
 ghost use Rattle.cc_placer.specs.PlacerState.{IsSomeBytes};
-ghost use Rattle.cc_machine.specs.Fit.{AreShort, IsFit};
+ghost use Rattle.cc_machine.specs.Fit.{AreShort, IsFit, LackFit};
 ghost use Rattle.cc_machine.specs.Gaps.{AreGaps, IsFirstFit};
 ghost use Rattle.cc_machine.specs.GapRow.{IsAtMost};
 
@@ -269,38 +269,43 @@ fn widest_of_four(gaps: &[Gap], from: usize) -> u64
 
 /// Returns the lowest start at a multiple of `align` of one byte more than `less` in a gap, and a hint
 /// for the position of the gap.
+///
+/// It skips four short gaps in a step.
 #[inline(always)]
 fn fit_among(gaps: &[Gap], less: u64, align: u64) -> Option<(u64, usize)>
     requires gaps { AreGaps gaps.now }
     requires aligned { 0 < align }
     ensures { IsFirstFit gaps.now (less + 1) align (option_map (λ found. found.0) result) }
 {
-    let mut from = 0;
-    'long: while let Some(at) = long_from(gaps, from, less) {
-        if let Some(start) = gaps[at].fit(less, align) {
-            return Some((start, at));
+    let mut start = 0;
+    'fours: while gaps.len() - start >= 4 {
+        if !are_short(gaps, start, less) {
+            if let Some(found) = fit_from(gaps, start, 4, less, align) {
+                return Some(found);
+            }
         }
-        from = at + 1;
-    }
-    None
-}
-
-/// Returns the position of the first gap, from a position on, of at least one byte more than `less`.
-///
-/// It skips four short gaps in a step.
-#[inline(always)]
-fn long_from(gaps: &[Gap], from: usize, less: u64) -> Option<usize>
-    requires { from ≤ length gaps.now }
-    ensures found { IfSome result (λ at. (from ≤ at) × (at < length gaps.now) × AreShort gaps.now from at less) }
-    ensures none { IfNone result (AreShort gaps.now from (length gaps.now) less) }
-{
-    let mut start = from;
-    'fours: while gaps.len() - start >= 4 && are_short(gaps, start, less) {
         start += 4;
     }
-    for at in start..gaps.len() {
-        if gaps[at].less() >= less {
-            return Some(at);
+    fit_from(gaps, start, gaps.len() - start, less, align)
+}
+
+/// Returns the lowest start at a multiple of `align` of one byte more than `less` in one of `count`
+/// gaps from a position on, and the position of the gap, given that there is none in a gap before them.
+///
+/// If the count is a constant, the compiler unrolls the loop.
+#[inline(always)]
+fn fit_from(gaps: &[Gap], from: usize, count: usize, less: u64, align: u64) -> Option<(u64, usize)>
+    requires gaps { AreGaps gaps.now }
+    requires aligned { 0 < align }
+    requires within { from + count ≤ length gaps.now }
+    requires none { LackFit gaps.now from (less + 1) align }
+    ensures some { IfSome result (λ found. IsFirstFit gaps.now (less + 1) align (Some found.0)) }
+    ensures none { IfNone result (LackFit gaps.now (from + count) (less + 1) align) }
+{
+    for step in 0..count {
+        let at = from + step;
+        if let Some(start) = gaps[at].fit(less, align) {
+            return Some((start, at));
         }
     }
     None
