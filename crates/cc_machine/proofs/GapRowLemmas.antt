@@ -50,6 +50,14 @@ index_most [] (suc k) = omega arith
 index_most (x ∷ xs) (suc k) =
     let rest = index_most xs k in omega (arith, rest, length-append x (gaps_of (take k xs)), length-append x (gaps_of xs))
 
+index_mono : (blocks : List (List Span)) (i j : ℕ) → i ≤ j → length (gaps_of (take i blocks)) ≤ length (gaps_of (take j blocks))
+index_mono blocks zero j less = omega arith
+index_mono [] (suc i) j less = omega arith
+index_mono (x ∷ xs) (suc i) zero less = absurd (omega (arith, less))
+index_mono (x ∷ xs) (suc i) (suc j) less =
+    let rest = index_mono xs i j (omega (arith, less)) in
+    omega (arith, rest, length-append x (gaps_of (take i xs)), length-append x (gaps_of (take j xs)))
+
 -- the index of a place has a gap, or is the end
 pub index_inside : (blocks : List (List Span)) (k at : ℕ) (d : List Span) → k < length blocks → at < length (get_or blocks k d)
     → index_at blocks k at < length (gaps_of blocks)
@@ -96,6 +104,38 @@ before_first blocks k d e within some =
     let same : index_at blocks (k + 1) 0 - 1 ≡ index_at blocks k (length (get_or blocks k d) - 1)
     = omega (arith, index_next blocks k d within, some) in
     rw same (gap_at blocks k (length (get_or blocks k d) - 1) d e within (omega (arith, some)))
+
+-- the heads are in the order of their last bytes
+pub lasts_rise : (blocks : List (List Span)) (heads : List Head) → AreGaps (gaps_of blocks) → AreHeaded blocks heads → (i j : ℕ) (d : Head)
+    → i ≤ j → j < length heads → (get_or heads i d).last ≤ (get_or heads j d).last
+lasts_rise blocks heads gaps are i j d order within =
+    let same = headed_length blocks heads are in
+    let low = head_at blocks heads i [] d are (omega (arith, order, within, same)) in
+    let high = head_at blocks heads j [] d are (omega (arith, within, same)) in
+    let e : Span = record { base = 0; top = 0 } in
+    elim (cases_eq i j) [
+      | inl equal ↦ rw equal (omega arith)
+      | inr apart ↦
+          let first = before_first blocks i [] e (omega (arith, order, within, same)) low.some in
+          let last = before_first blocks j [] e (omega (arith, within, same)) high.some in
+          let next_low = index_next blocks i [] (omega (arith, order, within, same)) in
+          let next_high = index_next blocks j [] (omega (arith, within, same)) in
+          let mono = index_mono blocks (i + 1) j (omega (arith, order, apart)) in
+          let inside : index_at blocks (j + 1) 0 - 1 < length (gaps_of blocks)
+          = omega (arith, index_most blocks (j + 1), next_high, high.some) in
+          let rise = gaps.apart (index_at blocks (i + 1) 0 - 1) (index_at blocks (j + 1) 0 - 1) e
+          (omega (arith, mono, next_low, next_high, low.some, high.some)) inside in
+          let some = (gaps.some (index_at blocks (j + 1) 0 - 1) e inside).not_empty in
+          omega (
+            arith,
+            low.last e,
+            high.last e,
+            rise,
+            some,
+            ap (λ (s : Span). s.top) first,
+            ap (λ (s : Span). s.top) last,
+          )
+    ]
 
 -- the position that heads give has all gaps before it at or below the address
 pub heads_below : (blocks : List (List Span)) (heads : List Head) (address k : ℕ) (d : Span) → AreHeaded blocks heads
@@ -472,14 +512,6 @@ head_read blocks heads k b h are within is here =
     subst (λ (e : Head). IsHead b e) (sym here) (head_of_block blocks heads k b h are within is)
 
 -- ---- Places.
-
-index_mono : (blocks : List (List Span)) (i j : ℕ) → i ≤ j → length (gaps_of (take i blocks)) ≤ length (gaps_of (take j blocks))
-index_mono blocks zero j less = omega arith
-index_mono [] (suc i) j less = omega arith
-index_mono (x ∷ xs) (suc i) zero less = absurd (omega (arith, less))
-index_mono (x ∷ xs) (suc i) (suc j) less =
-    let rest = index_mono xs i j (omega (arith, less)) in
-    omega (arith, rest, length-append x (gaps_of (take i xs)), length-append x (gaps_of (take j xs)))
 
 -- a place before the end has a gap
 pub place_within : (blocks : List (List Span)) (k at : ℕ) → IsPlaceAt blocks k at

@@ -5,6 +5,7 @@ ghost use Rattle.std.specs.List.{slice_index_or};
 ghost use Rattle.cc_machine.specs.declared.gap_heads.Head.{Head as HeadSpec};
 ghost use Rattle.cc_machine.specs.GapHeads.{AreAtMost, AreBounded, AreBoundedBut};
 
+use crate::searching::step_if_below;
 use std::alloc::{AllocError, Global};
 use std::marker::Model;
 
@@ -130,23 +131,27 @@ impl Heads {
 
     /// Returns the position of the first head whose last byte is at or above an address, or the
     /// number of heads if there is none.
+    ///
+    /// Requires: the heads are in the order of their last bytes.
     pub(crate) fn position(&self, address: u64) -> usize
+        requires order { (i j : ℕ) (d : HeadSpec) → i ≤ j → j < length self.now.heads
+            → (slice_index_or self.now.heads i d).last ≤ (slice_index_or self.now.heads j d).last }
         ensures within { result ≤ length self.now.heads }
         ensures below { (d : HeadSpec) → 0 < result → (slice_index_or self.now.heads (result - 1) d).last < address }
         ensures above { (d : HeadSpec) → result < length self.now.heads
             → address ≤ (slice_index_or self.now.heads result d).last }
     {
         let mut low = 0;
-        let mut high = self.heads.len();
-        while low < high {
-            let middle = low + (high - low) / 2;
-            if self.heads[middle].last < address {
-                low = middle + 1;
-            } else {
-                high = middle;
-            }
+        let mut size = self.heads.len();
+        if size == 0 {
+            return 0;
         }
-        low
+        while size > 1 {
+            let half = size / 2;
+            low += step_if_below(self.heads[low + half - 1].last, address, half);
+            size -= half;
+        }
+        low + step_if_below(self.heads[low].last, address, 1)
     }
 }
 

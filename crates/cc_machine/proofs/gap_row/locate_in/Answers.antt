@@ -1,9 +1,14 @@
 use Rattle.std.proofs.Common.{arith, refl, sym, length, ◌≤◌, [], ◌≡◌, ◌<◌}
 use Rattle.cc_machine.specs.declared.gap_heads.Head.{Head}
-use Rattle.cc_machine.proofs.GapRowLemmas.{gaps_of_read, head_of_block, headed_length, last_above, gap_read, index_end, length_of_block, located_end, located_in}
+use Rattle.cc_machine.proofs.GapRowLemmas.{gaps_of_read, head_of_block, headed_length, last_above, gap_read, index_end, lasts_rise, length_of_block, located_end, located_in}
 use Rattle.std.proofs.lemmas.Option.{slice_get_past}
 use Rattle.cc_machine.specs.GapRowState.{gaps_of, index_at}
 use Rattle.cc_machine.proofs.gap_row.locate_in.Goals as goal
+
+pub position-block-requires : goal.position-block-requires
+position-block-requires c = record {
+  order = lasts_rise c.args.blocks.now.blocks c.args.heads.now.heads c.requires.gaps c.requires.headed;
+}
 
 pub returns-then-block-len-clause-place : goal.returns-then-block-len-clause-place
 returns-then-block-len-clause-place c =
