@@ -5,7 +5,7 @@ ghost use Rattle.std.specs.Prelude.{None, option_map};
 ghost use Rattle.std.specs.List.{slice_index_or};
 ghost use Rattle.cc_bounds.specs.declared.span.Span.{Span as SpanSpec};
 ghost use Rattle.cc_placer.specs.PlacerState.{IsSomeBytes};
-ghost use Rattle.cc_placer.specs.declared.hint.Hint.{Hint as PlaceSpec};
+ghost use Rattle.cc_placer.specs.declared.hint.Hint.{Hint as HintSpec};
 ghost use Rattle.cc_machine.specs.Gaps.{AreGaps, IsFirstFit};
 ghost use Rattle.cc_machine.specs.GapRowState.{IsPlaceAt, IsPlaceIn, gaps_in, gaps_of, index_at, index_of};
 ghost use Rattle.cc_machine.specs.GapRow.{AreHeaded, HaveNoFit, IsAtMost, IsHead, IsLocated, IsSplit};
@@ -28,16 +28,15 @@ const JOINED_GAPS: usize = 48;
 // otherwise each object that is cut from a large gap would have the bound computed again
 const NEAR: u64 = 1024;
 
-/// A place in a row of gaps: a block, and a position in it. The end of the row is the position 0 of
-/// the block after the last.
-pub(crate) type Place = Hint;
-
 /// Gaps in the order of their addresses, in blocks of up to 64.
 ///
 /// Each block has a head: the last byte of its last gap, and an upper bound on the length of each.
 /// A search for an address takes a binary search over the heads and one in a block. A search for
 /// free space walks over the bounds of groups of 16 heads, over the heads of a group in which it may
 /// be, and over the gaps of such a block. All memory is reserved when the row is created.
+///
+/// A place in the row is a [`Hint`]: a block, and a position in it. The end of the row is the position 0
+/// of the block after the last.
 #[derive(Drop)]
 pub(crate) struct GapRow {
     /// The maximum number of gaps.
@@ -79,7 +78,7 @@ impl GapRow {
     /// Returns the place of the first gap that ends above an address, and the gap, or the end if
     /// there is none.
     #[inline(always)]
-    pub(crate) fn locate(&self, address: u64) -> (Place, Option<Span>)
+    pub(crate) fn locate(&self, address: u64) -> (Hint, Option<Span>)
         ensures place { IsPlaceIn self.now result.0 }
         ensures gap { result.1 ≡ slice_get (gaps_in self.now) (index_of self.now result.0) }
         ensures within { index_of self.now result.0 ≤ length (gaps_in self.now) }
@@ -93,7 +92,7 @@ impl GapRow {
 
     /// Returns the gap at a place, or `None` at the end.
     #[inline(always)]
-    pub(crate) fn gap(&self, place: Place) -> Option<Span>
+    pub(crate) fn gap(&self, place: Hint) -> Option<Span>
         requires { IsPlaceIn self.now place }
         ensures { result ≡ slice_get (gaps_in self.now) (index_of self.now place) }
     {
@@ -105,7 +104,7 @@ impl GapRow {
 
     /// Returns whether a place has a gap.
     #[inline(always)]
-    pub(crate) fn has(&self, place: Place) -> bool
+    pub(crate) fn has(&self, place: Hint) -> bool
         ensures { IsTrue result → IsPlaceIn self.now place }
     {
         place.block < self.blocks.len() && place.at < self.blocks.at(place.block).len()
@@ -113,7 +112,7 @@ impl GapRow {
 
     /// Returns the gap before a place, with its own place, or `None` if there is none.
     #[inline(always)]
-    pub(crate) fn gap_before(&self, place: Place) -> Option<(Place, Span)>
+    pub(crate) fn gap_before(&self, place: Hint) -> Option<(Hint, Span)>
         requires { IsPlaceIn self.now place }
         ensures some { IfSome result (λ found. IsPlaceIn self.now found.0
             × (index_of self.now found.0 + 1 ≡ index_of self.now place)
@@ -125,13 +124,13 @@ impl GapRow {
 
     /// Replaces the gap at a place. Each place keeps its gap.
     #[inline(always)]
-    pub(crate) fn set(&mut self, place: Place, gap: Span)
+    pub(crate) fn set(&mut self, place: Hint, gap: Span)
         requires place { IsPlaceIn self.old place }
         requires within { index_of self.old place < length (gaps_in self.old) }
         requires order { AreGaps (slice_set (gaps_in self.old) (index_of self.old place) gap) }
         ensures gaps { gaps_in self.new ≡ slice_set (gaps_in self.old) (index_of self.old place) gap }
         ensures room { self.new.room ≡ self.old.room }
-        ensures places { (other : PlaceSpec) → IsPlaceIn self.old other
+        ensures places { (other : HintSpec) → IsPlaceIn self.old other
             → IsPlaceIn self.new other × (index_of self.new other ≡ index_of self.old other) }
     {
         set_in(
@@ -145,7 +144,7 @@ impl GapRow {
 
     /// Inserts a gap before the one at a place. No place stays valid.
     #[inline(always)]
-    pub(crate) fn insert(&mut self, place: Place, gap: Span)
+    pub(crate) fn insert(&mut self, place: Hint, gap: Span)
         requires place { IsPlaceIn self.old place }
         requires order { AreGaps (insert (gaps_in self.old) (index_of self.old place) gap) }
         requires room { length (gaps_in self.old) < self.old.room }
@@ -167,7 +166,7 @@ impl GapRow {
 
     /// Returns whether a place is in a block that is not full.
     #[inline(always)]
-    fn has_room_at(&self, place: Place) -> bool
+    fn has_room_at(&self, place: Hint) -> bool
         ensures within { IsTrue result → place.block < length self.now.blocks }
         ensures fewer { IsTrue result → length (slice_index_or self.now.blocks place.block []) < 64 }
     {
@@ -180,7 +179,7 @@ impl GapRow {
     /// If no further block fits, two neighbors are joined first. It is not inlined, so that the usual
     /// insertion saves fewer registers.
     #[inline(never)]
-    fn insert_apart(&mut self, place: Place, gap: Span)
+    fn insert_apart(&mut self, place: Hint, gap: Span)
         requires place { IsPlaceIn self.old place }
         requires order { AreGaps (insert (gaps_in self.old) (index_of self.old place) gap) }
         requires room { length (gaps_in self.old) < self.old.room }
@@ -210,12 +209,12 @@ impl GapRow {
 
     /// Removes the gap at a place. Each lower place keeps its gap.
     #[inline(always)]
-    pub(crate) fn remove(&mut self, place: Place)
+    pub(crate) fn remove(&mut self, place: Hint)
         requires place { IsPlaceIn self.old place }
         requires within { index_of self.old place < length (gaps_in self.old) }
         ensures gaps { gaps_in self.new ≡ remove (gaps_in self.old) (index_of self.old place) }
         ensures room { self.new.room ≡ self.old.room }
-        ensures places { (other : PlaceSpec) → IsPlaceIn self.old other
+        ensures places { (other : HintSpec) → IsPlaceIn self.old other
             → index_of self.old other < index_of self.old place
             → IsPlaceIn self.new other × (index_of self.new other ≡ index_of self.old other) }
     {
@@ -229,7 +228,7 @@ impl GapRow {
     /// Returns the lowest start at a multiple of `align` of `len` bytes in a gap, and a hint for the
     /// place of the gap. `None` if there is none.
     #[inline(always)]
-    pub(crate) fn first_fit(&self, len: u128, align: u64) -> Option<(u64, Place)>
+    pub(crate) fn first_fit(&self, len: u128, align: u64) -> Option<(u64, Hint)>
         requires some { 0 < len }
         requires aligned { 0 < align }
         ensures { IsFirstFit (gaps_in self.now) len align (option_map (λ found. found.0) result) }
@@ -245,7 +244,7 @@ impl GapRow {
 /// Returns the place of the first gap that ends above an address, and the gap, or the end if there is
 /// none.
 #[inline(always)]
-fn locate_in(blocks: &GapBlocks, heads: &Heads, address: u64) -> (Place, Option<Span>)
+fn locate_in(blocks: &GapBlocks, heads: &Heads, address: u64) -> (Hint, Option<Span>)
     requires gaps { AreGaps (gaps_of blocks.now.blocks) }
     requires headed { AreHeaded blocks.now.blocks heads.now.heads }
     ensures place { IsPlaceAt blocks.now.blocks result.0.block result.0.at }
@@ -256,16 +255,16 @@ fn locate_in(blocks: &GapBlocks, heads: &Heads, address: u64) -> (Place, Option<
 {
     let block = heads.position(address);
     if block == heads.len() {
-        return (Place { block, at: 0 }, None);
+        return (Hint { block, at: 0 }, None);
     }
     let gaps = blocks.at(block);
     let at = gaps.position(address);
-    (Place { block, at }, Some(gaps.at(at)))
+    (Hint { block, at }, Some(gaps.at(at)))
 }
 
 /// Returns the gap before a place, with its own place, or `None` if there is none.
 #[inline(always)]
-fn gap_before_in(blocks: &GapBlocks, heads: &Heads, place: Place) -> Option<(Place, Span)>
+fn gap_before_in(blocks: &GapBlocks, heads: &Heads, place: Hint) -> Option<(Hint, Span)>
     requires headed { AreHeaded blocks.now.blocks heads.now.heads }
     requires place { IsPlaceAt blocks.now.blocks place.block place.at }
     ensures some { IfSome result (λ found. IsPlaceAt blocks.now.blocks found.0.block found.0.at
@@ -278,7 +277,7 @@ fn gap_before_in(blocks: &GapBlocks, heads: &Heads, place: Place) -> Option<(Pla
         let block = place.block;
         let at = place.at - 1;
         let gap = blocks.at(block).at(at);
-        return Some((Place { block, at }, gap));
+        return Some((Hint { block, at }, gap));
     }
     if place.block == 0 {
         return None;
@@ -286,13 +285,13 @@ fn gap_before_in(blocks: &GapBlocks, heads: &Heads, place: Place) -> Option<(Pla
     let block = place.block - 1;
     let gaps = blocks.at(block);
     let at = gaps.len() - 1;
-    Some((Place { block, at }, gaps.at(at)))
+    Some((Hint { block, at }, gaps.at(at)))
 }
 
 /// Returns the lowest start at a multiple of `align` of one byte more than `less` in a gap, and a hint
 /// for the place of the gap.
 #[inline(always)]
-fn fit_in(blocks: &GapBlocks, heads: &Heads, less: u64, align: u64) -> Option<(u64, Place)>
+fn fit_in(blocks: &GapBlocks, heads: &Heads, less: u64, align: u64) -> Option<(u64, Hint)>
     requires gaps { AreGaps (gaps_of blocks.now.blocks) }
     requires headed { AreHeaded blocks.now.blocks heads.now.heads }
     requires few { length blocks.now.blocks ≤ 2 ^ 20 }
@@ -322,7 +321,7 @@ fn fit_in_group(
     group: usize,
     less: u64,
     align: u64,
-) -> Option<(u64, Place)>
+) -> Option<(u64, Hint)>
     requires gaps { AreGaps (gaps_of blocks.now.blocks) }
     requires headed { AreHeaded blocks.now.blocks heads.now.heads }
     requires aligned { 0 < align }
@@ -335,7 +334,7 @@ fn fit_in_group(
     for at in GROUP * group..heads.len().min(GROUP * group + GROUP) {
         if heads.at(at).bound >= less {
             if let Some((start, gap)) = blocks.at(at).fit(less, align) {
-                return Some((start, Place { block: at, at: gap }));
+                return Some((start, Hint { block: at, at: gap }));
             }
         }
     }

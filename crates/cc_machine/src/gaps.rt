@@ -10,7 +10,7 @@ ghost use Rattle.cc_machine.specs.Gaps.{AreGaps};
 ghost use Rattle.cc_machine.specs.FreeSpace.{AddsBytes, LiesInGap};
 ghost use Rattle.cc_machine.specs.GapRowState.{IsPlaceIn, gaps_in, index_of};
 
-use crate::gap_row::{GapRow, Place};
+use crate::gap_row::GapRow;
 use cc_bounds::Span;
 use cc_placer::{Hint, Placer};
 use std::alloc::{AllocError, Global};
@@ -97,7 +97,7 @@ impl Placer for GapPlacer {
 
 /// Takes the bytes of a span out of the gap around it, which may be the one at the place `near`.
 #[inline(always)]
-fn take(row: &mut GapRow, span: Span, near: Place)
+fn take(row: &mut GapRow, span: Span, near: Hint)
     requires gaps { AreGaps (gaps_in row.old) }
     requires some { span.base < span.top }
     requires lies { LiesInGap (gaps_in row.old) span }
@@ -130,7 +130,7 @@ fn take(row: &mut GapRow, span: Span, near: Place)
 /// Returns the place of the gap around a span, and the gap. It is not searched for if it is at the
 /// place `near`.
 #[inline(always)]
-fn gap_around(row: &GapRow, span: Span, near: Place) -> (Place, Span)
+fn gap_around(row: &GapRow, span: Span, near: Hint) -> (Hint, Span)
     requires gaps { AreGaps (gaps_in row.now) }
     requires some { span.base < span.top }
     requires lies { LiesInGap (gaps_in row.now) span }
@@ -148,7 +148,7 @@ fn gap_around(row: &GapRow, span: Span, near: Place) -> (Place, Span)
 
 /// Returns the gap at a place, if there is one, and it is around the span.
 #[inline(always)]
-fn gap_near(row: &GapRow, span: Span, near: Place) -> Option<Span>
+fn gap_near(row: &GapRow, span: Span, near: Hint) -> Option<Span>
     ensures place { IsSome result → IsPlaceIn row.now near }
     ensures gap { IfSome result (λ gap. slice_get (gaps_in row.now) (index_of row.now near) ≡ Some gap) }
     ensures around { IfSome result (IsWithin span) }
@@ -206,7 +206,7 @@ fn top_from(gap: Option<Span>, base: u128) -> Option<u128>
 
 /// Returns the gap before a place, if it ends at `top`: its place and its base.
 #[inline(always)]
-fn gap_up_to(row: &GapRow, place: Place, top: u128) -> Option<(Place, u64)>
+fn gap_up_to(row: &GapRow, place: Hint, top: u128) -> Option<(Hint, u64)>
     requires { IsPlaceIn row.now place }
     ensures some { IfSome result (λ found. IsPlaceIn row.now found.0
         × (index_of row.now found.0 + 1 ≡ index_of row.now place)
