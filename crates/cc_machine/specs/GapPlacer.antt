@@ -1,5 +1,5 @@
 -- A placer that keeps gaps.
-use Rattle.std.specs.Prelude.{ℕ, ◌≡◌, ◌+◌, ◌≤◌, ◌^◌, List, [], Option, Some, None, IfSome, length}
+use Rattle.std.specs.Prelude.{ℕ, ◌≡◌, ◌+◌, ◌<◌, ◌≤◌, ◌^◌, List, [], Option, Some, None, IfSome, length}
 use Rattle.cc_bounds.specs.declared.span.Span.{Span}
 use Rattle.cc_placer.specs.PlacerState.{IsPoolSpan}
 use Rattle.cc_machine.specs.Gaps.{AreGaps}
@@ -26,11 +26,11 @@ pub record MayHold (placer : GapPlacerState) (held : List Span) : Type 0 where
   pub counted : placer.count ≡ length held
   pub free : AreFreeIn placer.pool held placer.gaps
 
--- IsGapPlacer holds if one placer has this limit, count, pool and row.
-pub record IsGapPlacer (limit count : ℕ) (pool : Option Span) (row : GapRowState) : Type 0 where
-  pub at_most : count ≤ limit
-  pub few : limit ≤ 2 ^ 24
-  pub room : row.room ≡ limit + 1
+-- IsGapPlacer holds if one placer has this count, pool and row. The row has capacity for one gap more than
+-- the placer has spans at most.
+pub record IsGapPlacer (count : ℕ) (pool : Option Span) (row : GapRowState) : Type 0 where
+  pub at_most : count < row.room
+  pub few : row.room ≤ 2 ^ 24 + 1
   pub is_pool : IfSome pool IsPoolSpan
   pub are_gaps : AreGaps (gaps_in row)
   pub none_before : pool ≡ None → gaps_in row ≡ []

@@ -24,21 +24,21 @@ use std::marker::Model;
 /// of groups of gaps, and over the gaps where such a span may fit.
 #[derive(Drop)]
 pub struct GapPlacer {
-    limit: u32,
     count: u32,
     pool: Option<Span>,
     row: GapRow,
 }
 
 impl Model for GapPlacer {
+    ghost use Rattle.std.specs.Prelude.{◌-◌};
     ghost use Rattle.cc_machine.specs.GapPlacer.{GapPlacerState, IsGapPlacer};
     ghost use Rattle.cc_machine.specs.GapRowState.{gaps_in};
 
     ghost Value = { GapPlacerState };
 
-    ghost view = { λ p. record { limit = p.limit; pool = p.pool; count = p.count; gaps = gaps_in p.row } };
+    ghost view = { λ p. record { limit = p.row.room - 1; pool = p.pool; count = p.count; gaps = gaps_in p.row } };
 
-    ghost invariant = { λ p. IsGapPlacer p.limit p.count p.pool p.row };
+    ghost invariant = { λ p. IsGapPlacer p.count p.pool p.row };
 }
 
 impl Placer for GapPlacer {
@@ -52,7 +52,6 @@ impl Placer for GapPlacer {
 
     fn with_limit(alloc: Global, n: u32) -> Result<Self, AllocError> {
         Ok(GapPlacer {
-            limit: n,
             count: 0,
             pool: None,
             row: GapRow::with_room(alloc, n + 1)?,

@@ -8,4 +8,4 @@ pub give-requires-clause-room : goal.give-requires-clause-room
 give-requires-clause-room c more are bytes =
     let none : gaps_in c.self.inside.row ≡ [] = c.self.invariant.none_before (ap (λ (p : GapPlacerState). p.pool)
     c.self.view_is ∙ c.requires.no_pool) in
-    omega (arith, few_pool_gaps (gaps_in c.self.inside.row) more c.args.span none are bytes, c.self.invariant.room)
+    omega (arith, few_pool_gaps (gaps_in c.self.inside.row) more c.args.span none are bytes, c.self.invariant.at_most)
