@@ -86,16 +86,8 @@ pub fn push_listing(text: &mut Text, word: u128)
 {
     let decoded = Decoded::of_word(word);
     let canonical = decoded.is_canonical();
-    push_lines(text, word, &decoded, canonical);
-}
-
-/// Appends all thirteen lines of a decoded word.
-fn push_lines(text: &mut Text, word: u128, decoded: &Decoded, canonical: bool)
-    requires { text.old ≡ [] }
-    ensures { text.new ≡ listing_of word decoded.now.fields decoded.now.bounds canonical }
-{
     push_field_lines(text, word, &decoded.fields);
-    push_bounds_lines(text, decoded, canonical);
+    push_bounds_lines(text, &decoded, canonical);
 }
 
 /// Appends the lines of a word and of its fields.
@@ -104,7 +96,7 @@ fn push_field_lines(text: &mut Text, word: u128, fields: &Fields)
     ensures value { text.new ≡ field_lines_of word fields.now }
     ensures fits { length text.new ≤ 382 }
 {
-    push_word_line(text, word);
+    push_digits_line(text, b"word", word, 32);
     push_permissions_line(text, fields.perms);
     push_decimal_line(text, b"reserved", u128::from(fields.reserved));
     push_decimal_line(text, b"flag", u128::from(fields.flag));
@@ -124,66 +116,42 @@ fn push_bounds_lines(text: &mut Text, decoded: &Decoded, canonical: bool)
     push_decimal_line(text, b"exponent", u128::from(decoded.exponent));
     push_hexadecimal_line(text, b"base", u128::from(decoded.bounds.base));
     push_hexadecimal_line(text, b"top", decoded.bounds.top);
-    push_canonical_line(text, canonical);
-}
-
-/// Appends the line that says whether the word is canonical.
-fn push_canonical_line(text: &mut Text, canonical: bool)
-    requires { length text.old + 14 ≤ MOST_TEXT }
-    ensures value { text.new ≡ text.old ++ line_of (codes "canonical") (if canonical then codes "yes" else codes "no") }
-    ensures fits { length text.new ≤ length text.old + 14 }
-{
-    let mut line = line_named(b"canonical");
-    line.push(if canonical { b"yes" } else { b"no" });
-    text.push_line(&line);
-}
-
-/// Appends the line of the word.
-fn push_word_line(text: &mut Text, word: u128)
-    requires { length text.old + 38 ≤ MOST_TEXT }
-    ensures value { text.new ≡ text.old ++ line_of (codes "word") (digits_of 32 word) }
-    ensures fits { length text.new ≤ length text.old + 38 }
-{
-    let mut line = line_named(b"word");
-    line.push(&write_word(word));
-    text.push_line(&line);
+    push_name(text, b"canonical");
+    text.push(if canonical { b"yes\n" } else { b"no\n" });
 }
 
 /// Appends a line whose value is the last `count` hexadecimal digits of a number.
 fn push_digits_line(text: &mut Text, name: &[u8], number: u128, count: usize)
     requires digits { count ≤ 32 }
-    requires name { length name.now ≤ 9 }
     requires room { length text.old + length name.now + count + 2 ≤ MOST_TEXT }
     ensures value { text.new ≡ text.old ++ line_of name.now (digits_of count number) }
     ensures fits { length text.new ≤ length text.old + length name.now + count + 2 }
 {
-    let mut line = line_named(name);
-    line.push_digits(number, count);
-    text.push_line(&line);
+    push_name(text, name);
+    text.push_digits(number, count);
+    text.push(b"\n");
 }
 
 /// Appends a line whose value is a number in decimal.
 fn push_decimal_line(text: &mut Text, name: &[u8], number: u128)
-    requires name { length name.now ≤ 9 }
-    requires room { length text.old + length name.now + 42 ≤ MOST_TEXT }
+    requires { length text.old + length name.now + 42 ≤ MOST_TEXT }
     ensures value { text.new ≡ text.old ++ line_of name.now (decimal number) }
     ensures fits { length text.new ≤ length text.old + length name.now + 42 }
 {
-    let mut line = line_named(name);
-    line.push_decimal(number);
-    text.push_line(&line);
+    push_name(text, name);
+    text.push_decimal(number);
+    text.push(b"\n");
 }
 
 /// Appends a line whose value is a number in hexadecimal, with `0x` and without leading zeros.
 fn push_hexadecimal_line(text: &mut Text, name: &[u8], number: u128)
-    requires name { length name.now ≤ 9 }
-    requires room { length text.old + length name.now + 36 ≤ MOST_TEXT }
+    requires { length text.old + length name.now + 36 ≤ MOST_TEXT }
     ensures value { text.new ≡ text.old ++ line_of name.now (hexadecimal number) }
     ensures fits { length text.new ≤ length text.old + length name.now + 36 }
 {
-    let mut line = line_named(name);
-    line.push_hexadecimal(number);
-    text.push_line(&line);
+    push_name(text, name);
+    text.push_hexadecimal(number);
+    text.push(b"\n");
 }
 
 /// Appends the line of the permissions, as digits and by name.
@@ -193,20 +161,20 @@ fn push_permissions_line(text: &mut Text, perms: u16)
         ++ line_of (codes "perms") (digits_of 4 perms ++ codes " " ++ permissions_text perms) }
     ensures fits { length text.new ≤ length text.old + 137 }
 {
-    let mut line = line_named(b"perms");
-    line.push_digits(u128::from(perms), 4);
-    line.push(b" ");
-    push_permissions(&mut line, Perms::from_bits_retain(perms));
-    text.push_line(&line);
+    push_name(text, b"perms");
+    text.push_digits(u128::from(perms), 4);
+    text.push(b" ");
+    let mut names = Line::new();
+    push_permissions(&mut names, Perms::from_bits_retain(perms));
+    text.push_line(&names);
 }
 
-/// Returns the start of a line: its name and a space.
-fn line_named(name: &[u8]) -> Line
-    requires { length name.now ≤ 9 }
-    ensures { result ≡ name.now ++ codes " " }
+/// Appends the start of a line: its name and a space.
+fn push_name(text: &mut Text, name: &[u8])
+    requires { length text.old + length name.now + 1 ≤ MOST_TEXT }
+    ensures value { text.new ≡ text.old ++ name.now ++ codes " " }
+    ensures fits { length text.new ≡ length text.old + length name.now + 1 }
 {
-    let mut line = Line::new();
-    line.push(name);
-    line.push(b" ");
-    line
+    text.push(name);
+    text.push(b" ");
 }
