@@ -111,7 +111,7 @@ fn list_segments<W: Sink>(
         if is_loaded(order, entry) {
             let segment = segment_of(order, file, entry);
             match list_segment(
-                options_of(order, format, search, segment.address),
+                segment_options(order, format, search, segment.address),
                 segment.words,
                 sink,
             ) {
@@ -123,11 +123,16 @@ fn list_segments<W: Sink>(
         table = after;
         left -= 1;
     }
-    end_core(ending_of(format, is_cut), any_error | is_cut, sink)
+    let line = if is_cut {
+        unfinished_refusal(format)
+    } else {
+        b""
+    };
+    end_core(line, any_error | is_cut, sink)
 }
 
 /// Returns the options of the listing of a segment whose first word is at this address.
-fn options_of<'a>(
+fn segment_options<'a>(
     order: ByteOrder,
     format: Format,
     search: Option<Search>,
@@ -162,18 +167,6 @@ fn list_segment<W: Sink>(
         left: None,
     };
     pump(&Blocks, &mut decoder, &mut source, sink, &mut page)
-}
-
-/// Returns the last line of the listing of an ELF64 file.
-fn ending_of(format: Format, is_cut: bool) -> &'static [u8]
-    ensures value { result.now ≡ (if is_cut then refusal_line format RefusalSpec.Unfinished else []) }
-    ensures fits { length result.now ≤ 32 }
-{
-    if is_cut {
-        unfinished_refusal(format)
-    } else {
-        b""
-    }
 }
 
 /// Ends the listing with this line. `any_error` says whether it has an error.

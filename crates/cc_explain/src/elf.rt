@@ -1,7 +1,6 @@
 //! The segments of an ELF64 file.
-ghost use Rattle.std.specs.Prelude.{◌≡◌, ◌≤◌, ◌==◌, drop, length, take};
-ghost use Rattle.std.specs.Int.{w16, w32, w64};
-ghost use Rattle.cc_explain.specs.Elf.{begins_as, bytes_of, data_order, elf_order, number_of, segment_of, table_of};
+ghost use Rattle.std.specs.Prelude.{◌≡◌, ◌+◌, ◌≤◌, ◌==◌, drop, length, take};
+ghost use Rattle.cc_explain.specs.Elf.{begins_as, bytes_of, data_order, elf_order, segment_of, table_of};
 ghost use Rattle.cc_explain.specs.Elf.{bytes_before, half_at, word_at, words_at, xword_at};
 
 use cc_io::ByteOrder;
@@ -20,45 +19,42 @@ pub(crate) struct Segment<'a> {
     pub(crate) is_cut: bool,
 }
 
-/// Returns the number of 2 bytes.
-fn half_of(order: ByteOrder, bytes: &[u8]) -> u16
-    requires { length bytes.now ≡ 2 }
-    ensures { result ≡ number_of w16 order bytes.now }
+/// Returns the number of 2 bytes at a place.
+fn half_at(order: ByteOrder, bytes: &[u8], place: usize) -> u16
+    requires { place + 2 ≤ length bytes.now }
+    ensures { result ≡ half_at order bytes.now place }
 {
-    match <[u8; 2]>::try_from(bytes) {
-        Ok(bytes) => match order {
-            ByteOrder::Little => u16::from_le_bytes(bytes),
-            ByteOrder::Big => u16::from_be_bytes(bytes),
-        },
-        Err(_) => unreachable!(),
+    let mut half = [0; 2];
+    half.copy_from_slice(&bytes[place..place + 2]);
+    match order {
+        ByteOrder::Little => u16::from_le_bytes(half),
+        ByteOrder::Big => u16::from_be_bytes(half),
     }
 }
 
-/// Returns the number of 4 bytes.
-fn word_of(order: ByteOrder, bytes: &[u8]) -> u32
-    requires { length bytes.now ≡ 4 }
-    ensures { result ≡ number_of w32 order bytes.now }
+/// Returns the number of 4 bytes at a place.
+fn word_at(order: ByteOrder, bytes: &[u8], place: usize) -> u32
+    requires { place + 4 ≤ length bytes.now }
+    ensures { result ≡ word_at order bytes.now place }
 {
-    match <[u8; 4]>::try_from(bytes) {
-        Ok(bytes) => match order {
-            ByteOrder::Little => u32::from_le_bytes(bytes),
-            ByteOrder::Big => u32::from_be_bytes(bytes),
-        },
-        Err(_) => unreachable!(),
+    let mut word = [0; 4];
+    word.copy_from_slice(&bytes[place..place + 4]);
+    match order {
+        ByteOrder::Little => u32::from_le_bytes(word),
+        ByteOrder::Big => u32::from_be_bytes(word),
     }
 }
 
-/// Returns the number of 8 bytes.
-fn xword_of(order: ByteOrder, bytes: &[u8]) -> u64
-    requires { length bytes.now ≡ 8 }
-    ensures { result ≡ number_of w64 order bytes.now }
+/// Returns the number of 8 bytes at a place.
+fn xword_at(order: ByteOrder, bytes: &[u8], place: usize) -> u64
+    requires { place + 8 ≤ length bytes.now }
+    ensures { result ≡ xword_at order bytes.now place }
 {
-    match <[u8; 8]>::try_from(bytes) {
-        Ok(bytes) => match order {
-            ByteOrder::Little => u64::from_le_bytes(bytes),
-            ByteOrder::Big => u64::from_be_bytes(bytes),
-        },
-        Err(_) => unreachable!(),
+    let mut xword = [0; 8];
+    xword.copy_from_slice(&bytes[place..place + 8]);
+    match order {
+        ByteOrder::Little => u64::from_le_bytes(xword),
+        ByteOrder::Big => u64::from_be_bytes(xword),
     }
 }
 
@@ -97,33 +93,35 @@ pub(crate) fn elf_order(file: &[u8]) -> Option<ByteOrder>
         return None;
     }
     match data_order(file) {
-        Some(order) if half_of(order, &file[54..56]) == 56 && segment_count(order, file) < 0xffff =>
-            { Some(order) }
+        // the length of an entry is `e_phentsize`
+        Some(order) if half_at(order, file, 54) == 56 && segment_count(order, file) < 0xffff => {
+            Some(order)
+        }
         _ => None,
     }
 }
 
-/// Returns the number of entries of the table of segments.
+/// Returns `e_phnum`, the number of entries of the table of segments.
 pub(crate) fn segment_count(order: ByteOrder, file: &[u8]) -> u16
     requires { 64 ≤ length file.now }
     ensures { result ≡ half_at order file.now 56 }
 {
-    half_of(order, &file[56..58])
+    half_at(order, file, 56)
 }
 
-/// Returns the file from its table of segments on.
+/// Returns the file from its table of segments on, which is at `e_phoff`.
 pub(crate) fn table_of(order: ByteOrder, file: &[u8]) -> &[u8]
     requires { 64 ≤ length file.now }
     ensures { result.now ≡ table_of order file.now }
 {
-    bytes_after(file, xword_of(order, &file[32..40]))
+    bytes_after(file, xword_at(order, file, 32))
 }
 
-/// Returns whether the segment of this entry is loaded.
+/// Returns whether the segment of this entry is loaded: its `p_type` is `PT_LOAD`.
 pub(crate) fn is_loaded(order: ByteOrder, entry: &[u8; ENTRY]) -> bool
     ensures { result ≡ (word_at order entry.now 0 == 1) }
 {
-    word_of(order, &entry[..4]) == 1
+    word_at(order, entry, 0) == 1
 }
 
 /// Returns the segment of an entry of the table.
@@ -132,13 +130,14 @@ pub(crate) fn segment_of<'a>(order: ByteOrder, file: &'a [u8], entry: &[u8; ENTR
     ensures words { result.words.now ≡ (segment_of order file.now entry.now).words }
     ensures is_cut { result.is_cut ≡ (segment_of order file.now entry.now).is_cut }
 {
-    let address = xword_of(order, &entry[16..24]);
-    let size = xword_of(order, &entry[32..40]);
-    let bytes = first_bytes(bytes_after(file, xword_of(order, &entry[8..16])), size);
+    let p_offset = xword_at(order, entry, 8);
+    let p_vaddr = xword_at(order, entry, 16);
+    let p_filesz = xword_at(order, entry, 32);
+    let bytes = first_bytes(bytes_after(file, p_offset), p_filesz);
     Segment {
-        address: address.wrapping_add(bytes_before(address)),
-        words: words_at(address, bytes),
-        is_cut: (bytes.len() as u64) < size,
+        address: p_vaddr.wrapping_add(bytes_before(p_vaddr)),
+        words: words_at(p_vaddr, bytes),
+        is_cut: (bytes.len() as u64) < p_filesz,
     }
 }
 

@@ -2,7 +2,7 @@ use Rattle.std.proofs.Common.{◌<◌, rules, subst, sym, List}
 use Rattle.cc_explain.specs.Core.{ListsSegments}
 use Rattle.cc_explain.specs.Elf.{LoadedSegment, segments_in}
 use Rattle.cc_explain.proofs.CoreLemmas.{Splits, ends_after, from_start, goes_on, none_left, none_over, other_next, stops_in}
-use Rattle.cc_explain.proofs.cores.list_segments.Goals.{else-entries-test, else-is_loaded, then-entries-test+in-None, then-is_loaded+in-Ok}
+use Rattle.cc_explain.proofs.cores.list_segments.Goals.{else-entries-test, else-is_cut, else-is_loaded, then-entries-test+in-None, then-is_cut, then-is_loaded+in-Ok}
 use Rattle.cc_explain.proofs.cores.list_segments.Goals as goal
 
 pub entries-init : goal.entries-init
@@ -18,7 +18,7 @@ returns-in-Err-clause-lists g c =
     record { whole = search rules; first = search rules; rest = search rules } in
     c.entries.invariant.more _ _
     (stops_in c.args.order c.args.format c.args.search c.args.file.now c.entries.table.now c.in-Some.parts.0.now c.in-Some.parts.1.now c.entries.left
-    c.segment_of-segment.result.address c.segment_of-segment.result.words.now c.options_of.result c.entries.is_cut c.entries.any_error _ _ _
+    c.segment_of-segment.result.address c.segment_of-segment.result.words.now c.segment_options.result c.entries.is_cut c.entries.any_error _ _ _
     (record {
       some = search rules;
       splits = splits;
@@ -26,7 +26,7 @@ returns-in-Err-clause-lists g c =
       address_is = c.segment_of-segment.ensures.address;
       words_is = c.segment_of-segment.ensures.words;
     })
-    c.options_of.ensures c.in-Err.ensures.write c.in-Err.ensures.lists)
+    c.segment_options.ensures c.in-Err.ensures.write c.in-Err.ensures.lists)
 
 pub entries-preserved : goal.entries-preserved
 entries-preserved g c =
@@ -38,7 +38,7 @@ entries-preserved g c =
           (elim c.if-is_loaded.branch [
             | then-is_loaded+in-Ok w ↦
                 goes_on c.args.order c.args.format c.args.search c.args.file.now c.entries.table.now c.in-Some.parts.0.now c.in-Some.parts.1.now c.entries.left
-                w.segment_of-segment.result.address w.segment_of-segment.result.words.now w.options_of.result c.entries.is_cut w.segment_of-segment.result.is_cut
+                w.segment_of-segment.result.address w.segment_of-segment.result.words.now w.segment_options.result c.entries.is_cut w.segment_of-segment.result.is_cut
                 c.entries.any_error w.in-Ok.summary _ (g.W.Sink.state w.list_segment.new.sink) now result
                 (record {
                   some = some;
@@ -47,7 +47,7 @@ entries-preserved g c =
                   address_is = w.segment_of-segment.ensures.address;
                   words_is = w.segment_of-segment.ensures.words;
                 })
-                w.options_of.ensures w.segment_of-segment.ensures.is_cut w.in-Ok.ensures.lists
+                w.segment_options.ensures w.segment_of-segment.ensures.is_cut w.in-Ok.ensures.lists
                 (rw (sym w.is_cut-is, sym w.any_error-is, sym w.sink-is) lists)
             | else-is_loaded w ↦
                 subst (λ (s : List LoadedSegment). ListsSegments c.args.order c.args.format c.args.search s c.entries.is_cut c.entries.any_error (g.W.Sink.state c.entries.sink) now result)
@@ -61,9 +61,13 @@ pub returns-clause-lists : goal.returns-clause-lists
 returns-clause-lists g c =
     c.entries.invariant.more _ _
     (ends_after c.args.order c.args.format c.args.search (segments_in c.args.order c.args.file.now c.entries.left c.entries.table.now) c.entries.is_cut
-    c.entries.any_error c.ending_of.result.now _ _ c.end_core.result
+    c.entries.any_error c.if-is_cut.line.now _ _ c.end_core.result
     (elim c.entries-test.branch [
       | else-entries-test w ↦ none_over c.args.order c.args.file.now c.entries.left c.entries.table.now w.entries-test.false
       | then-entries-test+in-None w ↦ none_left c.args.order c.args.file.now c.entries.left c.entries.table.now (search rules)
     ])
-    c.ending_of.ensures.value c.end_core.ensures.ends)
+    (elim c.if-is_cut.branch [
+      | then-is_cut w ↦ search rules
+      | else-is_cut w ↦ search rules
+    ])
+    c.end_core.ensures.ends)
