@@ -1,6 +1,6 @@
 -- The span that a word decodes to is stored in the word's own fields, if every bit of them counts.
 use Rattle.std.proofs.Common.{◌≡◌, ℕ, suc, ◌+◌, ◌-◌, ◌*◌, ◌<◌, ◌≤◌, ◌/◌, ◌%◌, ◌^◌, Bool, true, false, refl, sym, ◌∙◌, ap, subst, arith, inl, inr}
-use Rattle.std.specs.Prelude.{◌↔◌, min, if◌then◌else◌}
+use Rattle.std.specs.Prelude.{◌↔◌, min}
 use Rattle.std.proofs.Math.Nat.{mul-le-mul_right, mul-mod_left, pow-suc}
 use Rattle.std.proofs.Math.Pow.{pow_mono, mod-mod-pow, mod-pow-add}
 use Rattle.std.proofs.lemmas.Nat.{pow_pos, shl-shr}
@@ -11,7 +11,7 @@ use Rattle.cc_bounds.specs.declared.span.Span.{Span}
 use Rattle.cc_bounds.specs.Span.{IsSpan, length_of}
 use Rattle.cc_bounds.specs.Granule.{granule_count, IsExponent, exponent_of}
 use Rattle.cc_bounds.specs.Encoding.{HasBoundsFields, StoresSpan, IsEncoding, ie_of}
-use Rattle.cc_bounds.specs.Decoding.{stored_exponent, base_mantissa, exponent_digits, IsTopMantissa, DecodesTo, EveryBitCounts}
+use Rattle.cc_bounds.specs.Decoding.{stored_exponent, exponent_field, base_mantissa, exponent_digits, IsTopMantissa, DecodesTo, EveryBitCounts}
 use Rattle.cc_bounds.proofs.PlaceLemmas.{units_lt, stored_exponent-le}
 use Rattle.cc_bounds.proofs.StandingLemmas.{mantissa_length, mantissa_length-fits, base_mantissa-fits, standing}
 use Rattle.cc_bounds.proofs.DecodedSpanLemmas.{top-above, length-fits, word_short}
@@ -299,7 +299,7 @@ large_fits digits e low length base top large is_e low_fits from fits is_base is
 
 -- from exponent 51 up T alone decides
 pub large-stored : (fields : Fields) (span : Span) (field length : ℕ) → DecodesTo fields span
-    → field ≡ (if fields.ie then exponent_digits fields else 0) → 51 ≤ field → length < 2 ^ 13
+    → field ≡ exponent_field fields → 51 ≤ field → length < 2 ^ 13
     → IsTopMantissa fields ((base_mantissa fields + length) % 2 ^ 14)
     → (base_mantissa fields + length ≤ 2 ^ (64 - field)) ↔ StoresSpan fields span
 large-stored fields span field length decoded is_field large fits is_mantissa = by_ie fields.ie refl
@@ -374,6 +374,14 @@ small-stored fields span decoded small = (
           digits = λ is_ie. let uncut = rw is_ie at small in omega (arith, uncut);
           base = omega (arith, power, scaled);
         }
+
+-- fields that store a span have no exponent above 52
+pub stored-field : (fields : Fields) (span : Span) → StoresSpan fields span → exponent_field fields ≡ stored_exponent fields
+stored-field fields span h = by_ie fields.ie refl
+  where
+    by_ie : (ie : Bool) → fields.ie ≡ ie → exponent_field fields ≡ stored_exponent fields
+    by_ie true is_ie = let few = (stored-every fields span h).digits is_ie in rw is_ie (omega (arith, few))
+    by_ie false is_ie = rw is_ie refl
 
 -- the fields that store a span, as a `Set` keeps them
 pub stored-encoding : (fields : Fields) (span : Span) (e : ℕ) → e ≡ stored_exponent fields → StoresSpan fields span

@@ -12,6 +12,10 @@ use Rattle.cc_bounds.specs.Window.{section_of}
 abbrev pub exponent_digits : Fields → ℕ
 exponent_digits fields = 8 * (fields.t % 8) + fields.b % 8
 
+-- The exponent as the fields store it: 0 without IE, and with IE its digits.
+abbrev pub exponent_field : Fields → ℕ
+exponent_field fields = if fields.ie then exponent_digits fields else 0
+
 -- The exponent: 0 without IE, and with IE its digits, or 52 if they are more.
 abbrev pub stored_exponent : Fields → ℕ
 stored_exponent fields = if fields.ie then min 52 (exponent_digits fields) else 0

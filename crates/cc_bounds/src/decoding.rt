@@ -1,6 +1,6 @@
 //! The bounds that a word decodes to.
 ghost use Rattle.std.specs.Prelude.{◌≡◌, ◌+◌, ◌%◌, ◌^◌, ◌<◌, ◌≤◌, ◌↔◌, IsTrue, min, if◌then◌else◌};
-ghost use Rattle.cc_bounds.specs.Decoding.{exponent_digits, stored_exponent, without_exponent, base_mantissa};
+ghost use Rattle.cc_bounds.specs.Decoding.{exponent_field, stored_exponent, without_exponent, base_mantissa};
 ghost use Rattle.cc_bounds.specs.Decoding.{IsTopMantissa, IsDecodedBase, DecodesTo};
 ghost use Rattle.cc_bounds.specs.Encoding.{StoresSpan};
 ghost use Rattle.cc_bounds.specs.Window.{IsRepresentable};
@@ -53,7 +53,7 @@ fn without_exponent(ie: bool, field: u16) -> u64
 /// the low three bits of the T field and of the B field.
 #[inline(always)]
 pub(crate) fn exponent_field(fields: &Fields) -> u64
-    ensures digits { result ≡ (if fields.now.ie then exponent_digits fields.now else 0) }
+    ensures field { result ≡ exponent_field fields.now }
     ensures capped { stored_exponent fields.now ≡ min 52 result }
     ensures fits { result ≤ 63 }
 {
@@ -144,16 +144,31 @@ fn large_bounds(fields: &Fields, exponent: u64) -> Span
     }
 }
 
-/// Returns whether the fields store the bounds that they decode to, if their exponent is at least
-/// 51: whether T is at most 2^64 bytes.
+/// Returns whether the fields with this exponent field store the bounds that they decode to, if it is
+/// at least 51: whether T is at most 2^64 bytes.
 ///
 /// The length alone is more than that from exponent 53 on, and so is a base with a bit above bit 63.
 #[inline(always)]
-pub(crate) fn large_stores(fields: &Fields) -> bool
-    requires { 51 ≤ stored_exponent fields.now }
+pub(crate) fn large_stores(fields: &Fields, exponent: u64) -> bool
+    requires is_field { exponent ≡ exponent_field fields.now }
+    requires large { 51 ≤ exponent }
+    requires fits { exponent ≤ 63 }
     ensures { (span : SpanSpec) → DecodesTo fields.now span → (IsTrue result ↔ StoresSpan fields.now span) }
 {
-    base_mantissa(fields) + mantissa_length(fields) <= 1 << (64 - exponent_field(fields))
+    base_mantissa(fields) + mantissa_length(fields) <= 1 << (64 - exponent)
+}
+
+/// Returns the bounds of a word with this exponent field.
+#[inline(always)]
+pub(crate) fn bounds_of(fields: &Fields, exponent: u64) -> Span
+    requires { stored_exponent fields.now ≡ min 52 exponent }
+    ensures { DecodesTo fields.now result }
+{
+    if exponent < FIRST_LARGE_EXPONENT {
+        small_bounds(fields, exponent)
+    } else {
+        large_bounds(fields, exponent.min(MAX_EXPONENT))
+    }
 }
 
 /// Returns the bounds of a word.
@@ -171,10 +186,5 @@ pub fn decode(fields: &Fields) -> Span
     // The word's own address is representable for its bounds.
     ensures representable { IsRepresentable result.base (stored_exponent fields.now) fields.now.address }
 {
-    let exponent = exponent_field(fields);
-    if exponent < FIRST_LARGE_EXPONENT {
-        small_bounds(fields, exponent)
-    } else {
-        large_bounds(fields, exponent.min(MAX_EXPONENT))
-    }
+    bounds_of(fields, exponent_field(fields))
 }

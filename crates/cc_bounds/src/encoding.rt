@@ -1,13 +1,13 @@
 //! The encoding of a sound span, and setting bounds.
-ghost use Rattle.std.specs.Prelude.{◌≡◌, ◌+◌, ◌/◌, ◌%◌, ◌^◌, ◌<◌, ◌≤◌, ◌↔◌, IsTrue, true, IfSome};
+ghost use Rattle.std.specs.Prelude.{◌≡◌, ◌+◌, ◌/◌, ◌%◌, ◌^◌, ◌<◌, ◌≤◌, ◌↔◌, IsTrue, true, IfSome, min};
 ghost use Rattle.cc_bounds.specs.Span.{IsSpan, span_from, length_of};
 ghost use Rattle.cc_bounds.specs.Granule.{IsExponent, IsGranted, IsSound, exponent_of};
 ghost use Rattle.cc_bounds.specs.Encoding.{HasBoundsFields, StoresSpan, ie_of, t_of, b_of};
-ghost use Rattle.cc_bounds.specs.Decoding.{DecodesTo};
+ghost use Rattle.cc_bounds.specs.Decoding.{DecodesTo, exponent_field, stored_exponent};
 ghost use Rattle.cc_bounds.specs.declared.span.Span.{Span as SpanSpec};
 ghost use Rattle.cc_bounds.specs.Tightest.{DecodesBack, IsTight, IsTightest};
 
-use crate::decoding::{FIRST_LARGE_EXPONENT, decode, exponent, exponent_field, large_stores};
+use crate::decoding::{FIRST_LARGE_EXPONENT, bounds_of, exponent_field, large_stores};
 use crate::rounding::{granule_power, rounded};
 use crate::span::{ADDRESS_SPACE, Span};
 use cc_word::Fields;
@@ -78,12 +78,20 @@ impl Set {
         ensures only { (span : SpanSpec) → StoresSpan fields.now span
             → result ≡ Some (record { granted = span; exact = true }) }
     {
-        let span = decode(fields);
-        if stores(fields, &span) {
-            Some(stored_encoding(fields, span))
-        } else {
-            None
+        let exponent = exponent_field(fields);
+        let span = bounds_of(fields, exponent);
+        if !is_stored(fields, exponent, &span) {
+            return None;
         }
+        Some(Set {
+            top: span.top,
+            base: span.base,
+            t: fields.t,
+            b: fields.b,
+            exponent: exponent as u8,
+            ie: fields.ie,
+            exact: true,
+        })
     }
 
     /// Returns the encoding of a sound span, which is exact: the result of setting bounds to the
@@ -196,27 +204,22 @@ pub fn stores(fields: &Fields, bounds: &Span) -> bool
     requires { DecodesTo fields.now bounds.now }
     ensures { IsTrue result ↔ StoresSpan fields.now bounds.now }
 {
-    if exponent_field(fields) < FIRST_LARGE_EXPONENT {
-        ends_in_space(bounds)
-    } else {
-        large_stores(fields)
-    }
+    is_stored(fields, exponent_field(fields), bounds)
 }
 
-/// Returns the encoding of the span that the fields store.
+/// Returns whether the fields with this exponent field store the bounds that they decode to.
 #[inline(always)]
-fn stored_encoding(fields: &Fields, span: Span) -> Set
-    requires { StoresSpan fields.now span }
-    ensures { result ≡ record { granted = span; exact = true } }
+fn is_stored(fields: &Fields, exponent: u64, bounds: &Span) -> bool
+    requires is_field { exponent ≡ exponent_field fields.now }
+    requires capped { stored_exponent fields.now ≡ min 52 exponent }
+    requires fits { exponent ≤ 63 }
+    requires decodes { DecodesTo fields.now bounds.now }
+    ensures { IsTrue result ↔ StoresSpan fields.now bounds.now }
 {
-    Set {
-        top: span.top,
-        base: span.base,
-        t: fields.t,
-        b: fields.b,
-        exponent: exponent(fields),
-        ie: fields.ie,
-        exact: true,
+    if exponent < FIRST_LARGE_EXPONENT {
+        ends_in_space(bounds)
+    } else {
+        large_stores(fields, exponent)
     }
 }
 

@@ -2,16 +2,8 @@ use Rattle.cc_bounds.proofs.DecodingLemmas.{DecodesTo-same}
 use Rattle.cc_bounds.proofs.DecodedSpanLemmas.{word_representable}
 use Rattle.cc_bounds.proofs.decoding.decode.Goals as goal
 
-pub returns-then-exponent-lt-FIRST_LARGE_EXPONENT-clause-only : goal.returns-then-exponent-lt-FIRST_LARGE_EXPONENT-clause-only
-returns-then-exponent-lt-FIRST_LARGE_EXPONENT-clause-only c span decoded =
-    DecodesTo-same c.args.fields.now span _ decoded c.small_bounds.ensures
+pub returns-clause-only : goal.returns-clause-only
+returns-clause-only c span decoded = DecodesTo-same c.args.fields.now span _ decoded c.bounds_of.ensures
 
-pub returns-else-exponent-lt-FIRST_LARGE_EXPONENT-clause-only : goal.returns-else-exponent-lt-FIRST_LARGE_EXPONENT-clause-only
-returns-else-exponent-lt-FIRST_LARGE_EXPONENT-clause-only c span decoded =
-    DecodesTo-same c.args.fields.now span _ decoded c.large_bounds.ensures
-
-pub returns-then-exponent-lt-FIRST_LARGE_EXPONENT-clause-representable : goal.returns-then-exponent-lt-FIRST_LARGE_EXPONENT-clause-representable
-returns-then-exponent-lt-FIRST_LARGE_EXPONENT-clause-representable c = word_representable c.args.fields.now _ c.small_bounds.ensures
-
-pub returns-else-exponent-lt-FIRST_LARGE_EXPONENT-clause-representable : goal.returns-else-exponent-lt-FIRST_LARGE_EXPONENT-clause-representable
-returns-else-exponent-lt-FIRST_LARGE_EXPONENT-clause-representable c = word_representable c.args.fields.now _ c.large_bounds.ensures
+pub returns-clause-representable : goal.returns-clause-representable
+returns-clause-representable c = word_representable c.args.fields.now _ c.bounds_of.ensures

@@ -9,10 +9,9 @@ power field large = let few : 64 - field ≤ 13 = omega arith in let fits = pow_
 
 pub returns : goal.returns
 returns c span decoded =
-    let large : 51 ≤ c.exponent_field.result = omega (arith, c.requires, c.exponent_field.ensures.capped) in
     let law =
-    large-stored c.args.fields.now span c.exponent_field.result c.mantissa_length.result decoded c.exponent_field.ensures.digits large
+    large-stored c.args.fields.now span c.args.exponent c.mantissa_length.result decoded c.requires.is_field c.requires.large
     c.mantissa_length.ensures.fits c.mantissa_length.ensures.top in
-    let p = power c.exponent_field.result large in
+    let p = power c.args.exponent c.requires.large in
     let b = c.base_mantissa.ensures in
     (λ yes. law.0 (grind (arith, yes, p, b)), λ stores. let fits = law.1 stores in grind (arith, fits, p, b))
