@@ -190,9 +190,9 @@ fn ends_in_space(bounds: &Span) -> bool
     requires short { bounds.now.top < bounds.now.base + 2 ^ 64 }
     ensures { IsTrue result ↔ (bounds.now.top ≤ 2 ^ 64) }
 {
-    // the distance from the first byte to the last, or 0 for no byte
-    let distance = (bounds.len() as u64).saturating_sub(1);
-    distance <= u64::MAX - bounds.base
+    // modulo 2^64, which is below the base only if the bounds end at 2^64 or above
+    let end = bounds.base.wrapping_add(bounds.len() as u64);
+    end >= bounds.base || end == 0
 }
 
 /// Returns whether the fields store the bounds that they decode to: a word with these bounds fields
