@@ -59,13 +59,6 @@ OnWords-same rule one word authority result (inl found) cap by has has' made is 
     let same = IsWordOf-same own cap word own_has has in
     OnWord-same (rule cap) (one cap) authority result (subst (λ c. OnWord (rule c) authority result) same on) by has' made is
 
--- ---- bounds of more than 2^64 bytes
-
--- they lie in no span of the address space
-pub too_long-outside : (cap : Capability) (len : ℕ) → IsCapability cap → 2 ^ 64 < len
-    → ¬ IsWithin (record { base = cap.address; top = cap.address + len }) cap.span
-too_long-outside cap len is long within = absurd (omega (arith, long, within.to_top, is.is_span.top_fits))
-
 -- ---- one field of a word replaced
 
 -- the address

@@ -1,19 +1,14 @@
 -- The representation of a capability in a `Cap`. No public clause cites this file.
 use Rattle.std.proofs.Common.{sym}
-use Rattle.std.specs.Prelude.{ℕ, true, ◌≡◌, ◌⊎◌, ◌↔◌, IsTrue, Result, Err, IsOk, MatchResult}
+use Rattle.std.specs.Prelude.{ℕ, true, ◌≡◌, ◌⊎◌, Result, Err, IsOk, MatchResult}
 use Rattle.cc_word.specs.Refusal.{RefusedUnless}
 use Rattle.cc_word.specs.declared.refusal.Refusal.{Refusal}
 use Rattle.cc_word.specs.declared.refusal.Refusal.TheVariants.{Sealed, OutOfBounds, MissingPermission, NotCanonical}
-use Rattle.cc_bounds.specs.Span.{IsSpan, IsWithin}
-use Rattle.cc_bounds.specs.Granule.{IsGranted, IsSound}
-use Rattle.cc_bounds.specs.Window.{Represents}
-use Rattle.cc_bounds.specs.Encoding.{Encoding}
 use Rattle.cc_cap.specs.declared.cap.Cap.TheInside.{Inside}
 use Rattle.cc_cap.specs.Bounds.{encoding_of}
 use Rattle.cc_word.specs.Permissions.{bits_of, HasAll}
 use Rattle.cc_cap.specs.Capability.{Capability, IsCapability, IsUnsealed, Grants}
 use Rattle.cc_cap.specs.Canonical.{IsWordOf, IsCanonical}
-use Rattle.cc_cap.specs.Derivation.{request_of}
 
 -- The capability that a `Cap` represents.
 abbrev pub value_of : Inside → Capability
@@ -45,26 +40,6 @@ inside_of cap = record {
 pub inside_of-value_of : (inside : Inside) → IsWellFormed inside → inside_of (value_of inside) ≡ inside
 inside_of-value_of inside formed =
     λ i. record inside { set = record { granted = inside.set.granted; exact = sym formed.exact i } }
-
--- `IsEncodingFor` holds if the capability is unsealed, the request for bounds of this length is
--- within its span, and `set` is the encoding of these bounds.
-pub record IsEncodingFor (cap : Capability) (length : ℕ) (set : Encoding) : Type 0 where
-  pub unsealed : IsUnsealed cap
-  pub inside : IsWithin (request_of cap length) cap.span
-  pub granted : IsGranted (request_of cap length) set.granted
-  pub exact : IsTrue set.exact ↔ IsSound (request_of cap length)
-  pub same : IsTrue set.exact → set.granted ≡ request_of cap length
-  pub is_span : IsSpan set.granted
-  pub sound : IsSound set.granted
-  pub within : IsWithin set.granted cap.span
-  pub holds_address : Represents set.granted cap.address
-
--- `IsRefusedBounds` holds if bounds of this length are refused with `refusal`: `Sealed` for a
--- sealed capability, otherwise `OutOfBounds` if the request is not within its span.
-abbrev pub IsRefusedBounds : Capability → ℕ → Refusal → Type 0
-IsRefusedBounds cap length refusal =
-    ((¬ IsUnsealed cap) × (refusal ≡ Sealed))
-    ⊎ (IsUnsealed cap × (¬ IsWithin (request_of cap length) cap.span) × (refusal ≡ OutOfBounds))
 
 -- `ChecksAuthority` holds if the two checks of an authority give `result`, in order: it has the
 -- permission, and it grants its own address.

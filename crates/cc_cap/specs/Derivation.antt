@@ -1,6 +1,6 @@
 -- The rules by which one capability is derived from another. The checks of a rule are in the order
 -- in which they are made, and the first that fails decides the result.
-use Rattle.std.specs.Prelude.{ℕ, Bool, ◌≡◌, ◌+◌, ◌%◌, ◌^◌, ◌≤◌, Result, Ok, Err}
+use Rattle.std.specs.Prelude.{ℕ, Bool, true, false, ◌≡◌, ◌+◌, ◌%◌, ◌^◌, ◌≤◌, Result, Ok, Err}
 use Rattle.std.specs.Int.RustNames.{bit_and}
 use Rattle.cc_word.specs.Refusal.{RefusedUnless}
 use Rattle.cc_word.specs.declared.refusal.Refusal.{Refusal}
@@ -46,6 +46,11 @@ SetsExactBounds cap length result =
     RefusedUnless (IsWithin (request_of cap length) cap.span) (result ≡ Err OutOfBounds) (
     RefusedUnless (IsSound (request_of cap length)) (result ≡ Err Inexact) (
     result ≡ Ok (with_span cap (request_of cap length)))))
+
+-- The rule that sets bounds: exact ones, or those that are granted.
+abbrev pub SetsBoundsBy : (exact : Bool) → Capability → (length : ℕ) → Result Capability Refusal → Type 0
+SetsBoundsBy true = SetsExactBounds
+SetsBoundsBy false = SetsBounds
 
 -- `MasksPermissions` holds if `result` is the capability with those of its permissions that are also
 -- in the mask, or the refusal `Sealed`.

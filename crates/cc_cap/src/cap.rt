@@ -76,12 +76,12 @@ impl Cap {
     ghost use Rattle.cc_bounds.specs.Granule.{IsSound};
     ghost use Rattle.cc_bounds.specs.Span.{IsSpan, IsWithin, length_of};
     ghost use Rattle.cc_bounds.specs.Encoding.{ie_of, t_of, b_of};
-    ghost use Rattle.cc_cap.specs.Cap.{IsEncodingFor, IsRefusedBounds, ChecksAuthority, IsUnsealedFrom};
+    ghost use Rattle.cc_cap.specs.Cap.{ChecksAuthority, IsUnsealedFrom};
     ghost use Rattle.cc_cap.specs.Capability.{Capability, IsCapability, IsSealed, IsUnsealed, GrantsNoMore};
     ghost use Rattle.cc_cap.specs.Capability.{at_address, root_capability, with_span};
     ghost use Rattle.cc_cap.specs.Canonical.{IsWordOf, IsCanonical, word_of_capability};
     ghost use Rattle.cc_cap.specs.Reach.{IsReachable};
-    ghost use Rattle.cc_cap.specs.Derivation.{SetsAddress, Increments, SetsBounds, SetsExactBounds};
+    ghost use Rattle.cc_cap.specs.Derivation.{SetsAddress, Increments, SetsBounds, SetsExactBounds, SetsBoundsBy};
     ghost use Rattle.cc_cap.specs.Derivation.{MasksPermissions, SetsFlag, Seals, Unseals, Rebuilds};
 
     /// Returns the root capability: every permission over every address, at address 0 and unsealed.
@@ -144,10 +144,10 @@ impl Cap {
         ensures made { SetsBounds self.now len result }
         ensures monotonic { IfOk result (λ cap. GrantsNoMore cap self.now) }
     {
-        Ok(Cap {
-            set: self.encode(len)?.as_exact(),
-            ..*self
-        })
+        if self.is_sealed() {
+            return Err(Refusal::Sealed);
+        }
+        self.bounded(len, false)
     }
 
     /// Returns this capability with exactly the bounds of `len` bytes from its address.
@@ -164,11 +164,10 @@ impl Cap {
         ensures made { SetsExactBounds self.now len result }
         ensures monotonic { IfOk result (λ cap. GrantsNoMore cap self.now) }
     {
-        let set = self.encode(len)?;
-        if !set.exact() {
-            return Err(Refusal::Inexact);
+        if self.is_sealed() {
+            return Err(Refusal::Sealed);
         }
-        Ok(Cap { set, ..*self })
+        self.bounded(len, true)
     }
 
     /// Returns this capability with its address at the start of a span, and exactly the bounds of
@@ -402,20 +401,29 @@ impl Cap {
         }
     }
 
-    // Returns the encoding of the bounds of `len` bytes from the address, or `Sealed`, or
-    // `OutOfBounds` if these bytes are not within the bounds.
-    fn encode(&self, len: u128) -> Result<Set, Refusal>
-        requires { len ≤ 2 ^ 64 }
-        ensures { MatchResult result (IsEncodingFor self.now len) (IsRefusedBounds self.now len) }
+    // Returns this unsealed capability with the bounds of `len` bytes from its address, exactly these
+    // if `exact`, or `OutOfBounds`, or `Inexact`.
+    #[inline(always)]
+    pub(crate) fn bounded(&self, len: u128, exact: bool) -> Result<Cap, Refusal>
+        requires { IsUnsealed self.now }
+        ensures made { SetsBoundsBy exact self.now len result }
+        ensures monotonic { IfOk result (λ cap. GrantsNoMore cap self.now) }
     {
-        if self.is_sealed() {
-            return Err(Refusal::Sealed);
-        }
         let span = self.span();
-        if self.address < span.base || u128::from(self.address) + len > span.top {
+        let Some(room) = span.top.checked_sub(u128::from(self.address)) else {
+            return Err(Refusal::OutOfBounds);
+        };
+        if self.address < span.base || len > room {
             return Err(Refusal::OutOfBounds);
         }
-        Ok(cc_bounds::set_bounds(self.address, len))
+        let set = cc_bounds::set_bounds(self.address, len);
+        if exact && !set.exact() {
+            return Err(Refusal::Inexact);
+        }
+        Ok(Cap {
+            set: set.as_exact(),
+            ..*self
+        })
     }
 
     // Checks the permission, and then that the address is in the bounds: `MissingPermission`,

@@ -23,7 +23,7 @@ ghost use Rattle.cc_cap.specs.WordRules.{InWords, OnWord, OnWords, IsSubset};
 
 use crate::cap::Cap;
 use bitflags::Flags;
-use cc_bounds::{ADDRESS_SPACE, decode};
+use cc_bounds::decode;
 use cc_word::{Fields, Perms, Refusal, unpack};
 
 /// Returns the word at another address, with the same bounds.
@@ -61,10 +61,7 @@ pub fn set_bounds(word: u128, len: u128) -> Result<u128, Refusal>
     ensures made { OnWord (λ cap. SetsBounds cap len) word result }
 {
     let cap = Cap::of_unsealed_word(word)?;
-    if len > ADDRESS_SPACE {
-        return Err(Refusal::OutOfBounds);
-    }
-    in_words(cap.set_bounds(len))
+    in_words(cap.bounded(len, false))
 }
 
 /// Returns the word with exactly the bounds of `len` bytes from its address.
@@ -78,10 +75,7 @@ pub fn set_bounds_exact(word: u128, len: u128) -> Result<u128, Refusal>
     ensures made { OnWord (λ cap. SetsExactBounds cap len) word result }
 {
     let cap = Cap::of_unsealed_word(word)?;
-    if len > ADDRESS_SPACE {
-        return Err(Refusal::OutOfBounds);
-    }
-    in_words(cap.set_bounds_exact(len))
+    in_words(cap.bounded(len, true))
 }
 
 /// Returns the word with the permissions that are also in the mask.

@@ -1,10 +1,8 @@
 -- Words in memory.
-use Rattle.std.specs.Prelude.{ℕ, Bool, true, false, ◌≡◌, List, [], Result, if◌then◌else◌}
+use Rattle.std.specs.Prelude.{ℕ, Bool, ◌≡◌, List, [], Result, if◌then◌else◌}
 use Rattle.std.specs.Int.{w128, from_be_bytes, from_le_bytes}
 use Rattle.std.specs.List.{slice_index_or}
 use Rattle.cc_word.specs.declared.refusal.Refusal.{Refusal}
-use Rattle.cc_cap.specs.Capability.{Capability}
-use Rattle.cc_cap.specs.Derivation.{SetsBounds, SetsExactBounds}
 use Rattle.cc_ffi.specs.declared.structs.MadeWord.{MadeWord}
 use Rattle.cc_ffi.specs.Numbers.{number_of_halves}
 use Rattle.cc_ffi.specs.Rules.{GivesResult}
@@ -17,11 +15,6 @@ word_of_bytes big_endian bytes = if big_endian then from_be_bytes w128 bytes els
 -- The word of the 16 bytes at a position of memory.
 abbrev pub word_in_memory : (big_endian : Bool) (memory : List (List ℕ)) (i : ℕ) → ℕ
 word_in_memory big_endian memory i = word_of_bytes big_endian (slice_index_or memory i [])
-
--- The rule that sets bounds: exact ones, or those that are granted.
-abbrev pub SetsBoundsBy : (exact : Bool) → Capability → (length : ℕ) → Result Capability Refusal → Type 0
-SetsBoundsBy true = SetsExactBounds
-SetsBoundsBy false = SetsBounds
 
 -- GivesInMemory holds if the rule has a result, `bytes` are its word in memory, zero if there is
 -- none, and `refusal` is its refusal's code, or 0 if there is none.

@@ -12,7 +12,8 @@ ghost use Rattle.cc_ffi.specs.Numbers.{number_in, number_of_halves};
 ghost use Rattle.cc_ffi.specs.Words.{OfFields};
 ghost use Rattle.cc_ffi.specs.Bounds.{AreDecoded};
 ghost use Rattle.cc_ffi.specs.Many.{IsOneIf, IsOneIfRepresentable, word_at};
-ghost use Rattle.cc_ffi.specs.Memory.{GivesInMemory, SetsBoundsBy, word_in_memory, word_of_bytes};
+ghost use Rattle.cc_cap.specs.Derivation.{SetsBoundsBy};
+ghost use Rattle.cc_ffi.specs.Memory.{GivesInMemory, word_in_memory, word_of_bytes};
 ghost use Rattle.cc_ffi.specs.Rules.{GivesResult};
 
 use crate::c_rules::{cheri_cap_set_bounds_exact_on, cheri_cap_set_bounds_on};

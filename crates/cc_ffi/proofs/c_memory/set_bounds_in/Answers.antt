@@ -1,7 +1,8 @@
 use Rattle.std.proofs.Common.{ℕ, ◌≢◌, arith, get_or-set_other, subst}
 use Rattle.cc_cap.specs.WordRules.{OnWord}
 use Rattle.cc_ffi.specs.Many.{word_at}
-use Rattle.cc_ffi.specs.Memory.{SetsBoundsBy, word_in_memory}
+use Rattle.cc_cap.specs.Derivation.{SetsBoundsBy}
+use Rattle.cc_ffi.specs.Memory.{word_in_memory}
 use Rattle.cc_ffi.specs.Rules.{GivesResult}
 use Rattle.cc_ffi.proofs.MadeLemmas.{made_more}
 use Rattle.cc_ffi.proofs.c_memory.set_bounds_in.Goals as goal

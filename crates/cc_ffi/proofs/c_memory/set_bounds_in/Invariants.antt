@@ -3,7 +3,8 @@ use Rattle.std.specs.List.{SameFrom}
 use Rattle.cc_cap.specs.Many.{AnswersEach}
 use Rattle.cc_cap.specs.WordRules.{OnWord}
 use Rattle.cc_ffi.specs.Many.{word_at}
-use Rattle.cc_ffi.specs.Memory.{GivesInMemory, SetsBoundsBy, word_in_memory}
+use Rattle.cc_cap.specs.Derivation.{SetsBoundsBy}
+use Rattle.cc_ffi.specs.Memory.{GivesInMemory, word_in_memory}
 use Rattle.cc_ffi.proofs.c_memory.set_bounds_in.Given as goal
 
 abbrev pub invariant-loop-i : goal.invariant-loop-i
