@@ -1,5 +1,5 @@
 -- The rules on words.
-use Rattle.std.proofs.Common.{ℕ, Bool, ◌≡◌, ◌+◌, ◌-◌, ◌*◌, ◌<◌, ◌^◌, Result, Ok, Err, bit_and, refl, sym, subst, inl, inr, arith}
+use Rattle.std.proofs.Common.{ℕ, Bool, ◌≡◌, ◌+◌, ◌-◌, ◌*◌, ◌/◌, ◌<◌, ◌^◌, Result, Ok, Err, bit_and, refl, sym, subst, inl, inr, arith}
 use Rattle.std.specs.Prelude.{IfOk}
 use Rattle.cc_word.specs.declared.fields.Fields.{Fields}
 use Rattle.cc_word.specs.Word.{bit_of, word_of}
@@ -60,6 +60,10 @@ OnWords-same rule one word authority result (inl found) cap by has has' made is 
     OnWord-same (rule cap) (one cap) authority result (subst (λ c. OnWord (rule c) authority result) same on) by has' made is
 
 -- ---- one field of a word replaced
+
+-- the bits above the address
+pub address_cut : (fields : Fields) (word : ℕ) → word_of fields ≡ word → word / 2 ^ 64 * 2 ^ 64 ≡ word - fields.address
+address_cut fields word has = let fits = fields.address_fits in omega (arith, has, fits)
 
 -- the address
 pub address-replaced : (cap : Capability) (word address : ℕ) (made : Result Capability Refusal) (result : ℕ) → IsWordOf cap word → address < 2 ^ 64

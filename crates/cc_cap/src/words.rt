@@ -194,7 +194,7 @@ fn in_words(made: Result<Cap, Refusal>) -> Result<u128, Refusal>
 fn with_address(word: u128, address: u64) -> u128
     ensures { (fields : FieldsSpec) → word_of fields ≡ word → result ≡ word - fields.address + address }
 {
-    word - u128::from(unpack(word).address) + u128::from(address)
+    (word >> 64 << 64) + u128::from(address)
 }
 
 // Returns the word with another flag.
