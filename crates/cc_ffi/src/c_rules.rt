@@ -21,20 +21,15 @@ use cc_word::Refusal;
 fn made_word(answer: Result<u128, Refusal>) -> MadeWord
     ensures { IsMadeWord answer result }
 {
-    match answer {
-        Ok(word) => {
-            let word = halves(word);
-            MadeWord {
-                high: word.high,
-                low: word.low,
-                refusal: 0,
-            }
-        }
-        Err(refusal) => MadeWord {
-            high: 0,
-            low: 0,
-            refusal: refusal.code(),
-        },
+    let (word, refusal) = match answer {
+        Ok(word) => (word, 0),
+        Err(refusal) => (0, refusal.code()),
+    };
+    let word = halves(word);
+    MadeWord {
+        high: word.high,
+        low: word.low,
+        refusal,
     }
 }
 
