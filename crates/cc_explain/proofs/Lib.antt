@@ -13,4 +13,5 @@ pub mod CorrectionLemmas
 pub mod StepLemmas
 mod RequestLemmas
 mod TextLemmas
+mod RightsLemmas
 mod RowLemmas

@@ -25,12 +25,22 @@ ghost use Rattle.cc_explain.specs.Row.{columns_text, csv_text, fixed_text, json_
 ghost use Rattle.cc_explain.specs.Row.{values_text};
 
 use crate::places::push_place;
-use crate::writers::{Batch, push_byte, push_byte_if, push_decimal, push_digits, push_padded};
+use crate::writers::{Batch, push_byte, push_byte_if, push_decimal, push_padded};
 use bitflags::Flags;
 use cc_bounds::Span;
 use cc_cap::Decoded;
 use cc_io::{Format, Line, push_permissions, push_permissions_array};
-use cc_word::{Fields, Perms, SENTRY_TYPE, UNSEALED_TYPE};
+use cc_word::{Fields, Perms, SENTRY_TYPE, UNSEALED_TYPE, write_half};
+use std::simd::prelude::*;
+
+/// For each exponent, the number whose two hexadecimal digits are its decimal digits, or its one
+/// digit and a zero.
+const SHORT_DECIMALS: [u8; 53] = [
+    0x00, 0x10, 0x20, 0x30, 0x40, 0x50, 0x60, 0x70, 0x80, 0x90, 0x10, 0x11, 0x12, 0x13, 0x14, 0x15,
+    0x16, 0x17, 0x18, 0x19, 0x20, 0x21, 0x22, 0x23, 0x24, 0x25, 0x26, 0x27, 0x28, 0x29, 0x30, 0x31,
+    0x32, 0x33, 0x34, 0x35, 0x36, 0x37, 0x38, 0x39, 0x40, 0x41, 0x42, 0x43, 0x44, 0x45, 0x46, 0x47,
+    0x48, 0x49, 0x50, 0x51, 0x52,
+];
 
 /// Appends the line of a word in this format, with its address, if there is one: at most 474 bytes.
 #[inline(always)]
@@ -45,6 +55,7 @@ pub(crate) fn push_row_line(batch: &mut Batch, format: Format, at: Option<u64>, 
 }
 
 /// Appends the reply to a word in this format, without a line feed: at most 430 bytes.
+#[inline(always)]
 pub(crate) fn push_row(batch: &mut Batch, format: Format, word: u128)
     requires { length batch.old + 430 ≤ 32768 }
     ensures row { AppendsRow format word batch.old batch.new }
@@ -170,8 +181,9 @@ fn push_fixed_values(batch: &mut Batch, word: u128, decoded: &Decoded, canonical
     ensures fits { length batch.new ≤ length batch.old + 92 }
 {
     push_fixed_bounds(batch, word, &decoded.bounds);
-    push_rights(batch, b' ', &decoded.fields);
-    push_fixed_encoding(batch, decoded.exponent, canonical);
+    push_rights(batch, b' ', &decoded.fields, decoded.exponent);
+    push_byte(batch, b' ');
+    push_decimal(batch, u8::from(canonical));
 }
 
 /// Appends the word, its base and its top in one width each.
@@ -186,20 +198,6 @@ fn push_fixed_bounds(batch: &mut Batch, word: u128, bounds: &Span)
     push_padded(batch, u128::from(bounds.base));
     push_byte(batch, b' ');
     push_padded(batch, bounds.top);
-}
-
-/// Appends the exponent as two hexadecimal digits, and 1 for a canonical word or 0, with a space
-/// before each.
-fn push_fixed_encoding(batch: &mut Batch, exponent: u8, canonical: bool)
-    requires { length batch.old + 6 ≤ 32768 }
-    ensures value { batch.new ≡ batch.old ++ codes " " ++ digits_of 2 exponent ++ codes " "
-        ++ decimal (bit_of canonical) }
-    ensures fits { length batch.new ≤ length batch.old + 6 }
-{
-    push_byte(batch, b' ');
-    push_digits(batch, u64::from(exponent), 2);
-    push_byte(batch, b' ');
-    push_decimal(batch, u8::from(canonical));
 }
 
 /// Appends the comma-separated values of a word.
@@ -321,8 +319,9 @@ fn push_names(batch: &mut Batch, perms: u16)
     batch.push(names.bytes());
 }
 
-/// Appends the eight values of a decoded word, and a separator between each
-/// two.
+/// Appends the eight values of a decoded word, and a separator between each two.
+// inlined, so that the separator is known at compile time
+#[inline(always)]
 fn push_values(batch: &mut Batch, separator: u8, word: u128, decoded: &Decoded, canonical: bool)
     requires { length batch.old + 300 ≤ 32768 }
     ensures value { batch.new ≡ batch.old
@@ -330,11 +329,14 @@ fn push_values(batch: &mut Batch, separator: u8, word: u128, decoded: &Decoded, 
     ensures fits { length batch.new ≤ length batch.old + 150 }
 {
     push_bounds(batch, separator, word, &decoded.bounds);
-    push_rights(batch, separator, &decoded.fields);
-    push_encoding(batch, separator, decoded.exponent, canonical);
+    let last = SHORT_DECIMALS[usize::from(decoded.exponent)];
+    push_rights(batch, separator, &decoded.fields, last);
+    batch.drop_last(usize::from(decoded.exponent < 10));
+    push_answer(batch, separator, canonical);
 }
 
 /// Appends the word, its base and its top, the first three values.
+#[inline(always)]
 fn push_bounds(batch: &mut Batch, separator: u8, word: u128, bounds: &Span)
     requires { length batch.old + 102 ≤ 32768 }
     ensures value { batch.new ≡ batch.old ++ digits_of 32 word ++ (separator ∷ []) ++ hexadecimal bounds.now.base
@@ -359,35 +361,35 @@ fn push_span(batch: &mut Batch, separator: u8, bounds: &Span)
     batch.push_hexadecimal(bounds.top);
 }
 
-/// Appends permissions, flag and type, with a separator before each.
-fn push_rights(batch: &mut Batch, separator: u8, fields: &Fields)
-    requires { length batch.old + 14 ≤ 32768 }
+/// Appends permissions, flag, type and two more hexadecimal digits, with a separator before each.
+// the digits of all four are made together, with a digit 0 in place of each separator
+#[inline(always)]
+fn push_rights(batch: &mut Batch, separator: u8, fields: &Fields, last: u8)
+    requires { length batch.old + 16 ≤ 32768 }
     ensures value { batch.new ≡ batch.old ++ (separator ∷ []) ++ digits_of 4 fields.now.perms ++ (separator ∷ [])
-        ++ decimal (bit_of fields.now.flag) ++ (separator ∷ []) ++ digits_of 5 fields.now.otype }
-    ensures fits { length batch.new ≤ length batch.old + 14 }
+        ++ decimal (bit_of fields.now.flag) ++ (separator ∷ []) ++ digits_of 5 fields.now.otype
+        ++ (separator ∷ []) ++ digits_of 2 last }
+    ensures fits { length batch.new ≡ length batch.old + 16 }
 {
-    push_byte(batch, separator);
-    push_digits(batch, u64::from(fields.perms), 4);
-    push_byte(batch, separator);
-    push_decimal(batch, u8::from(fields.flag));
-    push_byte(batch, separator);
-    push_digits(batch, u64::from(fields.otype), 5);
+    let rights = (u64::from(fields.perms) << 44) + (u64::from(fields.flag) << 36);
+    let digits = write_half(rights + (u64::from(fields.otype) << 12) + u64::from(last));
+    let x = separator ^ b'0';
+    let turned = u8x16::from_array([x, 0, 0, 0, 0, x, 0, x, 0, 0, 0, 0, 0, x, 0, 0]);
+    batch.push(&(u8x16::from_array(digits) ^ turned).to_array());
 }
 
-/// Appends the exponent and whether the word is canonical, with a separator before each.
-fn push_encoding(batch: &mut Batch, separator: u8, exponent: u8, canonical: bool)
-    requires small { exponent < 100 }
-    requires room { length batch.old + 7 ≤ 32768 }
-    ensures value { batch.new ≡ batch.old ++ (separator ∷ []) ++ decimal exponent ++ (separator ∷ [])
-        ++ (if canonical then codes "yes" else codes "no") }
-    ensures fits { length batch.new ≤ length batch.old + 7 }
+/// Appends whether a word is canonical, with a separator before it.
+#[inline(always)]
+fn push_answer(batch: &mut Batch, separator: u8, canonical: bool)
+    requires { length batch.old + 4 ≤ 32768 }
+    ensures value { batch.new ≡ batch.old ++ (separator ∷ []) ++ (if canonical then codes "yes" else codes "no") }
+    ensures fits { length batch.new ≤ length batch.old + 4 }
 {
-    push_byte(batch, separator);
-    push_decimal(batch, exponent);
-    push_byte(batch, separator);
-    if canonical {
-        batch.push(b"yes");
+    let text = if canonical {
+        [separator, b'y', b'e', b's']
     } else {
-        batch.push(b"no");
-    }
+        [separator, b'n', b'o', b' ']
+    };
+    batch.push(&text);
+    batch.drop_last(usize::from(!canonical));
 }

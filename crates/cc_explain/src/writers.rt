@@ -1,6 +1,5 @@
 //! Bytes, digits and numbers appended to the page of replies.
 ghost use Rattle.std.specs.Prelude.{◌≡◌, ◌+◌, ◌≤◌, ◌<◌, ◌++◌, ◌∷◌, [], decimal, length, if◌then◌else◌};
-ghost use Rattle.cc_word.specs.WordText.{digits_of};
 ghost use Rattle.cc_explain.specs.Row.{padded};
 
 use cc_io::Page;
@@ -34,17 +33,6 @@ pub(crate) fn push_byte_if(batch: &mut Batch, byte: u8, wanted: bool)
     batch.drop_last(usize::from(!wanted));
 }
 
-/// Appends the last `count` hexadecimal digits of a number, at most 16.
-#[inline(always)]
-pub(crate) fn push_digits(batch: &mut Batch, number: u64, count: usize)
-    requires digits { count ≤ 16 }
-    requires room { length batch.old + count ≤ 32768 }
-    ensures value { batch.new ≡ batch.old ++ digits_of count number }
-    ensures fits { length batch.new ≡ length batch.old + count }
-{
-    batch.push(&write_half(number)[16 - count..]);
-}
-
 /// Appends a number below 100 in decimal digits.
 #[inline(always)]
 #[tactic(auto, using(cc_io::proofs::DecimalLemmas::one_digit, cc_io::proofs::DecimalLemmas::two_digits))]
@@ -68,7 +56,7 @@ pub(crate) fn push_padded(batch: &mut Batch, number: u128)
     ensures value { batch.new ≡ batch.old ++ padded number }
     ensures fits { length batch.new ≡ length batch.old + 19 }
 {
-    batch.push(b"0x");
-    push_digits(batch, (number >> 64) as u64, 1);
+    batch.push_known(*b"0x");
+    batch.push_digits(number >> 64, 1);
     batch.push(&write_half((number % (1 << 64)) as u64));
 }

@@ -10,8 +10,8 @@ returns-clause-value c =
     let before : List ℕ = old ++ 48 ∷ 120 ∷ [] in
     let high = digits_of 1 (number / 2 ^ 64) in
     let low = digits_of 16 (number % 2 ^ 64) in
-    c.push-2.ensures
-    ∙ rw (c.push_digits.ensures.value, c.push.ensures, c.write_half.ensures)
+    c.push.ensures
+    ∙ rw (c.push_digits.ensures.value, c.push_known.ensures, c.write_half.ensures)
     (append_assoc before high low
     ∙ ap (λ (l : List ℕ). before ++ l) (sym (seventeen_digits number))
     ∙ append_assoc old (48 ∷ 120 ∷ []) (digits_of 17 number))
