@@ -290,7 +290,8 @@ fn fit_among(gaps: &[Gap], less: u64, align: u64) -> Option<(u64, usize)>
 }
 
 /// Returns the lowest start at a multiple of `align` of one byte more than `less` in one of `count`
-/// gaps from a position on, and the position of the gap, given that there is none in a gap before them.
+/// gaps from a position on, and a hint for the position of the gap, given that no gap before them has
+/// one.
 ///
 /// If the count is a constant, the compiler unrolls the loop.
 #[inline(always)]
