@@ -25,7 +25,8 @@ use cc_word::Refusal;
 
 /// Replies to an entry with the row of its word, or with the refusal `syntax` in this format. Each
 /// reply has a line feed.
-// The decoder of all words, without addresses: it tests nothing for a word.
+// The decoder of all words, without addresses: it tests nothing for a word, and its replies are
+// inlined into the loop over the entries.
 #[derive(Clone, Copy)]
 pub(crate) struct PlainDecoder {
     /// The form of the input.
@@ -51,6 +52,7 @@ impl Answerer<ROOM> for PlainDecoder {
         512
     }
 
+    #[inline(always)]
     fn answer(&mut self, entry: &[u8], out: &mut Batch) -> bool {
         match read_entry(self.input, entry) {
             Some(word) => {
