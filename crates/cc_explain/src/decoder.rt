@@ -12,6 +12,7 @@ ghost use Rattle.cc_explain.specs.Decoder.{
 };
 ghost use Rattle.cc_explain.specs.Output.{IsWanted, refusal_line};
 ghost use Rattle.cc_explain.specs.Part.{is_part_over, left_after};
+ghost use Rattle.cc_explain.specs.Row.{most_line};
 
 use crate::entries::read_entry;
 use crate::options::Options;
@@ -198,9 +199,9 @@ fn push_reply(out: &mut Batch, options: &Options<'_>, word: Option<u128>) -> boo
 
 /// Appends the line of a word, if the options request it.
 fn push_word(out: &mut Batch, options: &Options<'_>, word: u128)
-    requires { length out.old + 474 ≤ 32768 }
+    requires { length out.old + most_line ≤ 32768 }
     ensures word { AppendsWord options.now word out.old out.new }
-    ensures fits { length out.new ≤ length out.old + 474 }
+    ensures fits { length out.new ≤ length out.old + most_line }
 {
     if is_wanted(options, word) {
         push_row_line(out, options.format, options.at, word);

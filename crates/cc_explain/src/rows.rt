@@ -22,7 +22,7 @@ ghost use Rattle.cc_word.specs.Permissions.{bits_of};
 ghost use Rattle.cc_io.specs.Permissions.{permissions_array, permissions_text};
 ghost use Rattle.cc_explain.specs.Decoder.{AppendsLine, AppendsRow};
 ghost use Rattle.cc_explain.specs.Row.{columns_text, csv_text, fixed_text, json_bounds, json_rights, json_text, padded};
-ghost use Rattle.cc_explain.specs.Row.{values_text};
+ghost use Rattle.cc_explain.specs.Row.{most_line, most_row, values_text};
 
 use crate::places::push_place;
 use crate::writers::{Batch, push_byte, push_byte_if, push_decimal, push_padded};
@@ -42,24 +42,24 @@ const SHORT_DECIMALS: [u8; 53] = [
     0x48, 0x49, 0x50, 0x51, 0x52,
 ];
 
-/// Appends the line of a word in this format, with its address, if there is one: at most 474 bytes.
+/// Appends the line of a word in this format, with its address, if there is one.
 #[inline(always)]
 pub(crate) fn push_row_line(batch: &mut Batch, format: Format, at: Option<u64>, word: u128)
-    requires { length batch.old + 474 ≤ 32768 }
+    requires { length batch.old + most_line ≤ 32768 }
     ensures line { AppendsLine format at word batch.old batch.new }
-    ensures fits { length batch.new ≤ length batch.old + 474 }
+    ensures fits { length batch.new ≤ length batch.old + most_line }
 {
     push_place(batch, format, at);
     push_row(batch, format, word);
     push_byte(batch, b'\n');
 }
 
-/// Appends the reply to a word in this format, without a line feed: at most 430 bytes.
+/// Appends the reply to a word in this format, without a line feed.
 #[inline(always)]
 pub(crate) fn push_row(batch: &mut Batch, format: Format, word: u128)
-    requires { length batch.old + 430 ≤ 32768 }
+    requires { length batch.old + most_row ≤ 32768 }
     ensures row { AppendsRow format word batch.old batch.new }
-    ensures fits { length batch.new ≤ length batch.old + 430 }
+    ensures fits { length batch.new ≤ length batch.old + most_row }
 {
     match format {
         Format::Columns => push_columns(batch, word),
@@ -72,9 +72,9 @@ pub(crate) fn push_row(batch: &mut Batch, format: Format, word: u128)
 
 /// Appends the columns of a word.
 fn push_columns(batch: &mut Batch, word: u128)
-    requires { length batch.old + 430 ≤ 32768 }
+    requires { length batch.old + most_row ≤ 32768 }
     ensures row { AppendsRow Format.Columns word batch.old batch.new }
-    ensures fits { length batch.new ≤ length batch.old + 430 }
+    ensures fits { length batch.new ≤ length batch.old + most_row }
 {
     let decoded = Decoded::of_word(word);
     let canonical = decoded.is_canonical();
@@ -83,9 +83,9 @@ fn push_columns(batch: &mut Batch, word: u128)
 
 /// Appends the line that a tagged word has.
 fn push_line(batch: &mut Batch, word: u128)
-    requires { length batch.old + 430 ≤ 32768 }
+    requires { length batch.old + most_row ≤ 32768 }
     ensures row { AppendsRow Format.Text word batch.old batch.new }
-    ensures fits { length batch.new ≤ length batch.old + 430 }
+    ensures fits { length batch.new ≤ length batch.old + most_row }
 {
     let decoded = Decoded::of_word(word);
     push_line_of(batch, &decoded.fields, &decoded.bounds);
@@ -93,9 +93,9 @@ fn push_line(batch: &mut Batch, word: u128)
 
 /// Appends the line of a tagged word with these fields and bounds.
 fn push_line_of(batch: &mut Batch, fields: &Fields, bounds: &Span)
-    requires { length batch.old + 430 ≤ 32768 }
+    requires { length batch.old + most_row ≤ 32768 }
     ensures value { batch.new ≡ batch.old ++ word_line_of fields.now bounds.now true }
-    ensures fits { length batch.new ≤ length batch.old + 430 }
+    ensures fits { length batch.new ≤ length batch.old + most_row }
 {
     push_address_and_letters(batch, fields);
     push_bounds_and_mark(batch, fields, bounds);
@@ -165,9 +165,9 @@ fn push_mark(batch: &mut Batch, otype: u32)
 
 /// Appends the columns of a word in one width each.
 fn push_fixed(batch: &mut Batch, word: u128)
-    requires { length batch.old + 430 ≤ 32768 }
+    requires { length batch.old + most_row ≤ 32768 }
     ensures row { AppendsRow Format.Fixed word batch.old batch.new }
-    ensures fits { length batch.new ≤ length batch.old + 430 }
+    ensures fits { length batch.new ≤ length batch.old + most_row }
 {
     let decoded = Decoded::of_word(word);
     let canonical = decoded.is_canonical();
@@ -176,7 +176,7 @@ fn push_fixed(batch: &mut Batch, word: u128)
 
 /// Appends the columns in one width each of a decoded word.
 fn push_fixed_values(batch: &mut Batch, word: u128, decoded: &Decoded, canonical: bool)
-    requires { length batch.old + 430 ≤ 32768 }
+    requires { length batch.old + most_row ≤ 32768 }
     ensures value { batch.new ≡ batch.old ++ fixed_text word decoded.now.fields decoded.now.bounds canonical }
     ensures fits { length batch.new ≤ length batch.old + 92 }
 {
@@ -202,9 +202,9 @@ fn push_fixed_bounds(batch: &mut Batch, word: u128, bounds: &Span)
 
 /// Appends the comma-separated values of a word.
 fn push_csv(batch: &mut Batch, word: u128)
-    requires { length batch.old + 430 ≤ 32768 }
+    requires { length batch.old + most_row ≤ 32768 }
     ensures row { AppendsRow Format.Csv word batch.old batch.new }
-    ensures fits { length batch.new ≤ length batch.old + 430 }
+    ensures fits { length batch.new ≤ length batch.old + most_row }
 {
     let decoded = Decoded::of_word(word);
     let canonical = decoded.is_canonical();
@@ -213,9 +213,9 @@ fn push_csv(batch: &mut Batch, word: u128)
 
 /// Appends the comma-separated values of a decoded word.
 fn push_csv_values(batch: &mut Batch, word: u128, decoded: &Decoded, canonical: bool)
-    requires { length batch.old + 430 ≤ 32768 }
+    requires { length batch.old + most_row ≤ 32768 }
     ensures value { batch.new ≡ batch.old ++ csv_text word decoded.now.fields decoded.now.bounds canonical }
-    ensures fits { length batch.new ≤ length batch.old + 430 }
+    ensures fits { length batch.new ≤ length batch.old + most_row }
 {
     push_values(batch, b',', word, decoded, canonical);
     push_address_and_names(batch, decoded.fields.address, decoded.fields.perms);
@@ -223,9 +223,9 @@ fn push_csv_values(batch: &mut Batch, word: u128, decoded: &Decoded, canonical: 
 
 /// Appends the members of the object of a word, and the brace that closes it.
 fn push_json(batch: &mut Batch, word: u128)
-    requires { length batch.old + 430 ≤ 32768 }
+    requires { length batch.old + most_row ≤ 32768 }
     ensures row { AppendsRow Format.Json word batch.old batch.new }
-    ensures fits { length batch.new ≤ length batch.old + 430 }
+    ensures fits { length batch.new ≤ length batch.old + most_row }
 {
     let decoded = Decoded::of_word(word);
     let canonical = decoded.is_canonical();
@@ -234,9 +234,9 @@ fn push_json(batch: &mut Batch, word: u128)
 
 /// Appends the members of the object of a decoded word, and the brace that closes it.
 fn push_json_members(batch: &mut Batch, word: u128, decoded: &Decoded, canonical: bool)
-    requires { length batch.old + 430 ≤ 32768 }
+    requires { length batch.old + most_row ≤ 32768 }
     ensures value { batch.new ≡ batch.old ++ json_text word decoded.now.fields decoded.now.bounds canonical }
-    ensures fits { length batch.new ≤ length batch.old + 430 }
+    ensures fits { length batch.new ≤ length batch.old + most_row }
 {
     push_json_rights(batch, word, &decoded.fields);
     push_json_bounds(batch, decoded);
