@@ -832,7 +832,7 @@ def _flag(flag: bool) -> bool:
 
 
 def mask_of(names: Union[str, Iterable[str]]) -> int:
-    """Returns the mask of permissions by their names, joined by "+", as in a script. "-" is none of them.
+    """Returns the mask of permissions by their names, joined by "+", as in a script. "-" names no permission.
 
     The names may also be a list.
 

@@ -1,6 +1,7 @@
 -- The sixteen characters of a row's rights, and the digits of an exponent.
 use mir.Val.{bool_byte}
-use Rattle.std.proofs.Common.{◌≡◌, ◌∙◌, ℕ, ◌+◌, ◌-◌, ◌*◌, ◌/◌, ◌%◌, ◌^◌, ◌<◌, ◌==◌, Bool, true, false, if◌then◌else◌, ltb, ltb-true, ltb-false, List, [], ◌∷◌, ◌++◌, ap, arith, decimal, min, refl, sym, slice_index, length, length-append, take}
+use Rattle.std.proofs.Common.{◌≡◌, ◌∙◌, ℕ, ◌+◌, ◌-◌, ◌*◌, ◌/◌, ◌%◌, ◌^◌, ◌<◌, ◌==◌, ltb, ltb-true, ltb-false, min, arith, ap, refl, sym}
+use Rattle.std.proofs.Common.{Bool, true, false, if◌then◌else◌, List, [], ◌∷◌, ◌++◌, decimal, slice_index, length, length-append, take}
 use Rattle.std.proofs.Math.Seq.{take-append-add}
 use Rattle.std.proofs.lemmas.List.{take_all}
 use Rattle.std.specs.Int.Bits.{bit_xor, xor_zero_r}
@@ -86,7 +87,7 @@ one_less text a b =
     let count : length (text ++ a ∷ b ∷ []) - 1 ≡ length text + 1 = omega (arith, length-append text (a ∷ b ∷ [])) in
     ap (λ (n : ℕ). take n (text ++ a ∷ b ∷ [])) count ∙ take-append-add text (a ∷ b ∷ []) 1
 
--- the digits of the entry are those of the exponent, but for a second one after a single digit
+-- the entry has the digits of the exponent, and a second one after a single digit
 pub shortened : (text : List ℕ) (e : ℕ) → e < 53
     → take (length (text ++ digits_of 2 (slice_index SHORT_DECIMALS e)) - bool_byte (ltb e 10)) (text ++ digits_of 2 (slice_index SHORT_DECIMALS e)) ≡ text ++ decimal e
 unfolding digits_of
