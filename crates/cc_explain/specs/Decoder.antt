@@ -1,5 +1,5 @@
 -- The replies of a decoder. No public clause cites this file.
-use Rattle.std.specs.Prelude.{◌≡◌, ℕ, Bool, true, false, List, ◌++◌, Option, None, Some}
+use Rattle.std.specs.Prelude.{◌≡◌, ◌+◌, ℕ, Bool, true, false, List, ◌++◌, Option, None, Some}
 use Rattle.cc_io.specs.Answers.{Relation}
 use Rattle.cc_explain.specs.Part.{is_part_over, left_after}
 use Rattle.cc_explain.specs.Place.{after_entry}
@@ -36,6 +36,14 @@ EndsPlainly old rest text is_error new = IsUnfinished (plain_options old) rest t
 abbrev pub EndsPart : Relation Decoder
 EndsPart old rest text is_error new =
     IsUnfinished old.options rest text × (is_error ≡ true) × (is_part_over old.left ≡ false)
+
+-- The maximum length of a row in bytes.
+abbrev pub most_row : ℕ
+most_row = 430
+
+-- The maximum length of a row with its address and its line feed.
+abbrev pub most_line : ℕ
+most_line = most_row + 44
 
 -- AppendsRow holds if the row of the word was appended.
 pub record AppendsRow (format : Format) (word : ℕ) (old new : List ℕ) : Type 0 where

@@ -1,5 +1,5 @@
 -- The reply to one word, on one line.
-use Rattle.std.specs.Prelude.{ℕ, ◌+◌, List, [], ◌∷◌, ◌++◌, codes, decimal, Bool, true, if◌then◌else◌}
+use Rattle.std.specs.Prelude.{ℕ, List, [], ◌∷◌, ◌++◌, codes, decimal, Bool, true, if◌then◌else◌}
 use Rattle.std.specs.List.{join_with_byte}
 use Rattle.cc_word.specs.Word.{bit_of}
 use Rattle.cc_word.specs.WordText.{digits_of, hexadecimal}
@@ -99,11 +99,3 @@ header_text Text = []
 header_text Fixed = []
 header_text Json = []
 header_text Csv = with_line_feed (codes "word,base,top,perms,flag,type,exponent,canonical,address,names")
-
--- The maximum length of a row in bytes.
-abbrev pub most_row : ℕ
-most_row = 430
-
--- That of a row with its address and its line feed.
-abbrev pub most_line : ℕ
-most_line = most_row + 44

@@ -9,10 +9,10 @@ ghost use Rattle.cc_explain.specs.Decoder.{
   AppendsWord,
   EndsPart,
   EndsPlainly,
+  most_line,
 };
 ghost use Rattle.cc_explain.specs.Output.{IsWanted, refusal_line};
 ghost use Rattle.cc_explain.specs.Part.{is_part_over, left_after};
-ghost use Rattle.cc_explain.specs.Row.{most_line};
 
 use crate::entries::read_entry;
 use crate::options::Options;

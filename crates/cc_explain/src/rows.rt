@@ -20,9 +20,9 @@ ghost use Rattle.cc_word.specs.WordText.{digits_of, hexadecimal};
 ghost use Rattle.cc_cap.specs.LineText.{letter_of, letters_of, word_line_of, marks_of};
 ghost use Rattle.cc_word.specs.Permissions.{bits_of};
 ghost use Rattle.cc_io.specs.Permissions.{permissions_array, permissions_text};
-ghost use Rattle.cc_explain.specs.Decoder.{AppendsLine, AppendsRow};
+ghost use Rattle.cc_explain.specs.Decoder.{AppendsLine, AppendsRow, most_line, most_row};
 ghost use Rattle.cc_explain.specs.Row.{columns_text, csv_text, fixed_text, json_bounds, json_rights, json_text, padded};
-ghost use Rattle.cc_explain.specs.Row.{most_line, most_row, values_text};
+ghost use Rattle.cc_explain.specs.Row.{values_text};
 
 use crate::places::push_place;
 use crate::writers::{Batch, push_byte, push_byte_if, push_decimal, push_padded};
