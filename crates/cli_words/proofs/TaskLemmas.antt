@@ -24,7 +24,7 @@ use Rattle.cli.proofs.DeviceLemmas.{on_devices-map}
 use Rattle.cli_words.specs.BareDigits.{is_bare}
 use Rattle.cli_words.specs.NumberHint.{after_base, hint_if}
 use Rattle.cli_words.specs.Questions.{address_of}
-use Rattle.cli_words.specs.Listing.{options_of, part_of, search_of}
+use Rattle.cli_words.specs.DecodeOptions.{options_of, part_of, search_of}
 use Rattle.cli_words.specs.Tasks.{DecodesInput, GaveAll, ListsCoreFile, ListsInput, ListsWords, RoundsLengths, SeesLengths}
 use Rattle.cli.specs.declared.fault.Fault.{Fault}
 use Rattle.cli.specs.declared.fault.Fault.TheVariants as fault

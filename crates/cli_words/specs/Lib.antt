@@ -1,5 +1,5 @@
 -- In reading order.
-pub mod Listing
+pub mod DecodeOptions
 pub mod ListLine
 pub mod BareDigits
 pub mod Rounding

@@ -26,7 +26,7 @@ use Rattle.cc_io.specs.Devices.{InputState}
 use Rattle.cli.specs.Devices.{Console, FromInput, GivesAll, Traffic}
 use Rattle.cli.specs.declared.input.InputName.{InputName}
 use Rattle.cli.specs.declared.input.InputName.TheVariants.{File}
-use Rattle.cli_words.specs.Listing.{options_of, part_of, search_of}
+use Rattle.cli_words.specs.DecodeOptions.{options_of, part_of, search_of}
 use Rattle.cli_words.specs.NumberHint.{after_base, hint_if}
 use Rattle.cli_words.specs.Questions.{address_of, IsAnswerTo, IsUnanswerable, question_hint}
 

@@ -2,11 +2,11 @@
 #![tactic(auto)]
 
 mod bare_digits;
+mod decode_options;
 mod explaining_bounds;
 mod file_hint;
 mod length_list;
 mod list_line;
-mod listing;
 mod number_hint;
 mod questions;
 mod rounding;

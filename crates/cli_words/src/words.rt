@@ -2,17 +2,17 @@
 ghost use Rattle.std.specs.Prelude.{◌≡◌, ◌≢◌, ◌↔◌, IfOk, IfSome, IsSome, IsTrue, false, true, Err, OnErr};
 ghost use Rattle.cli.specs.Devices.{FromInput, IsEnd, OnDevices, OnOutput, console_of};
 ghost use Rattle.cli.specs.Input.{AreUnasked, IsFile, OpensFile, file_input};
-ghost use Rattle.cli_words.specs.Listing.{options_of, part_of};
+ghost use Rattle.cli_words.specs.DecodeOptions.{options_of, part_of};
 ghost use Rattle.cli_words.specs.Tasks.{AnnotatesWords, DecodesInput, ListsCoreFile, ListsWords, RoundsLengths};
 ghost use Rattle.cli_words.specs.Tasks.{GaveAll, SeesLengths, TakesMemory};
 
+use crate::decode_options::{options_of, part_of, search_of};
 use crate::file_hint::hint_file;
 use crate::length_list::round_list;
-use crate::listing::{options_of, part_of, search_of};
 use crate::number_hint::hint_list;
 use crate::questions::address_of;
-use cc_explain::{Format, InputForm, Options, Part, Search, annotate, decode_core, decode_words};
-use cc_io::{Sink, Summary};
+use cc_explain::{Options, Part, Search, annotate, decode_core, decode_words};
+use cc_io::{Format, InputForm, Sink, Summary};
 use cli::{Base, Content, DecodeValues, Fault, InputName, Inputs, Memory, file_input};
 
 /// Writes a row for each listed word of the part of the input that FILE names, of the tagged ones if there is a file of

@@ -1,7 +1,7 @@
 use Rattle.std.proofs.Common.{rules}
 use Rattle.cli.specs.Devices.{console_of}
 use Rattle.cli.specs.Input.{file_input}
-use Rattle.cli_words.specs.Listing.{options_of, part_of}
+use Rattle.cli_words.specs.DecodeOptions.{options_of, part_of}
 use Rattle.cli_words.proofs.TaskLemmas.{decodes_core, decodes_words, lists_tagged, lists_untagged}
 use Rattle.cli_words.proofs.words.decode_file.Goals as goal
 

@@ -1,6 +1,6 @@
 use Rattle.cli.specs.Devices.{Console, console_of}
 use Rattle.cli.specs.Input.{file_input}
-use Rattle.cli_words.specs.Listing.{options_of, part_of}
+use Rattle.cli_words.specs.DecodeOptions.{options_of, part_of}
 use Rattle.cli_words.proofs.TaskLemmas.{lists_alike}
 use Rattle.cli_words.proofs.words.list_file.Goals as goal
 

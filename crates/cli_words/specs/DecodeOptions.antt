@@ -1,4 +1,4 @@
--- The listing that the values of `decode` request.
+-- The options of a listing that the values of `decode` request.
 use Rattle.std.specs.Prelude.{ℕ, Bool, ◌/◌, false, not, List, Option, Some, None, is_some, option_map, unwrap_or}
 use Rattle.std.specs.Borrow.{Bor}
 use Rattle.cc_word.specs.declared.perms.Perms.{Perms}

@@ -1,9 +1,10 @@
-//! The listing that the values of `decode` request.
+//! The options of a listing that the values of `decode` request.
 ghost use Rattle.std.specs.Prelude.{◌≡◌, option_map, unwrap_or};
-ghost use Rattle.cli_words.specs.Listing.{options_of, part_of, search_of, tags_after};
+ghost use Rattle.cli_words.specs.DecodeOptions.{options_of, part_of, search_of, tags_after};
 
 use bitflags::Flags;
-use cc_explain::{Format, InputForm, Options, Part, Search, Tags};
+use cc_explain::{Options, Part, Search, Tags};
+use cc_io::{Format, InputForm};
 use cc_word::Perms;
 use cli::DecodeValues;
 
