@@ -31,7 +31,7 @@ pub use invocation::{
     DecodeValues, Invocation, PoolTexts, ReplayOutput, ReplayValues, SummaryFormat,
 };
 pub use memory::{GlobalMemory, Memory};
-pub use outcome::{Ending, ending_of, ending_status, finish, status, tell};
+pub use outcome::{Ending, ending_of, ending_status, finish, tell};
 pub use process_inputs::{ProcessInputs, no_input};
 pub use question::{Base, Question};
 pub use reading::read_words;

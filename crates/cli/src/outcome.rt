@@ -30,17 +30,6 @@ pub fn ending_of(answer: Result<Summary, Fault>) -> Ending
     }
 }
 
-/// Returns the exit status of a program whose command had this result: 0 if no reply was an error, 1 if one was, and 3
-/// if the program stopped before its end.
-pub fn status(answer: &Result<Summary, Fault>) -> u8
-    ensures { result ≡ status_of (ending_of answer.now) }
-{
-    match answer {
-        Ok(summary) => u8::from(summary.any_error),
-        Err(_) => 3,
-    }
-}
-
 /// Returns the exit status: 0 if no reply was an error, 1 if one was, 2 if the command line was refused, and 3 if the
 /// program stopped before its end.
 pub fn ending_status(ending: Ending) -> u8
