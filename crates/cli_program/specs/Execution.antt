@@ -78,12 +78,12 @@ abbrev pub with_values : {Values : Type 0} → Result Values Refusal → (Values
 with_values (Ok values) effect = effect values
 with_values (Err refusal) effect = refuses refusal
 
--- The command `replay` of a program: whether its texts are accepted, and its effect.
+-- The command `replay` of a program: whether its values are accepted, and its effect.
 pub record ReplayCommand : Type 1 where
   pub accepts : ReplayValues → Bool
   pub effect : ReplayValues → Option (Bor Text) → Effect
 
--- The command `replay` of a program without it: no texts are accepted.
+-- The command `replay` of a program without it: no values are accepted.
 abbrev pub no_replay : ReplayCommand
 no_replay = record { accepts = λ values. false; effect = λ values file. refuses Syntax }
 

@@ -7,7 +7,7 @@ use Rattle.cli.specs.declared.invocation.Invocation.{Invocation}
 use Rattle.cli.specs.declared.invocation.Invocation.TheVariants.{Replay}
 use Rattle.cli_program.specs.Execution.{ReplayCommand}
 
--- Whether the texts of the command are accepted, in a program with this `replay`.
+-- Whether the values of the command are accepted, in a program with this `replay`.
 abbrev pub has_good_texts : ReplayCommand → Invocation → Bool
 has_good_texts replay (Replay values file) = replay.accepts values
 has_good_texts replay _ = true
