@@ -42,16 +42,16 @@ pub record IsLengthAnswer (base : Option ℕ) (line : List ℕ) (answer : Answer
   pub error_is : IsTrue answer.is_error ↔ (IsUnlisted base line ⊎ (128 < length line))
 
 -- AreLengthAnswers holds if the replies are those to the lines, one for each.
-abbrev pub AreLengthAnswers : (base : Option ℕ) (lines : List (List ℕ)) → List Answer → Type 0
+abbrev pub AreLengthAnswers : (base : Option ℕ) (entries : List (List ℕ)) → List Answer → Type 0
 AreLengthAnswers base [] [] = ⊤
-AreLengthAnswers base (line ∷ lines) (answer ∷ answers) = IsLengthAnswer base line answer × AreLengthAnswers base lines answers
+AreLengthAnswers base (line ∷ entries) (answer ∷ answers) = IsLengthAnswer base line answer × AreLengthAnswers base entries answers
 AreLengthAnswers base [] (answer ∷ answers) = ⊥
-AreLengthAnswers base (line ∷ lines) [] = ⊥
+AreLengthAnswers base (line ∷ entries) [] = ⊥
 
 -- AreRoundings holds if the replies are those to the lines, and `bare` is whether a line is digits
 -- that may be meant as hexadecimal ones.
-abbrev pub AreRoundings : (base : Option ℕ) (bare : Bool) (lines : List (List ℕ)) → List Answer → Type 0
-AreRoundings base bare lines answers = AreLengthAnswers base lines answers × (bare ≡ list_any is_bare_line lines)
+abbrev pub AreRoundings : (base : Option ℕ) (bare : Bool) (entries : List (List ℕ)) → List Answer → Type 0
+AreRoundings base bare entries answers = AreLengthAnswers base entries answers × (bare ≡ list_any is_bare_line entries)
 
 -- RoundsList holds if the bytes written are the replies to the lines of some text that the source
 -- gave, up to a failure. At a failure of the sink, these are on a page of 32,768 bytes, of which at
