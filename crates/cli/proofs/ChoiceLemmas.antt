@@ -10,7 +10,7 @@ use Rattle.clap.specs.declared.error.Error.{Error}
 use Rattle.clap.specs.declared.error.kind.ErrorKind.{ErrorKind}
 use Rattle.clap.specs.declared.error.kind.ErrorKind.TheVariants.{OutOfMemory}
 use Rattle.cc_values.specs.Values.{address_in, permissions_in}
-use Rattle.cli.specs.Invocation.{choice_fault, choice_fault_in, faults_of, is_taken, kinds_in, has_raw, is_on, is_read, list_fault, search_fault, search_fault_of, value_fault}
+use Rattle.cli.specs.Invocation.{choice_fault, choice_fault_in, faults_of, is_taken, kinds_in, has_other_input, is_on, is_read, list_fault, search_fault, search_fault_of, value_fault}
 
 -- ---- the values of `explain`
 
@@ -70,7 +70,7 @@ pub reads : (rows : List Row) → search_fault_of rows ≡ None
     × (is_read address_in (first_of (codes "at") rows) ≡ true) × (is_read address_in (first_of (codes "holds") rows) ≡ true)
     × (is_read permissions_in (first_of (codes "perms") rows) ≡ true)
 reads rows e =
-    all_read (is_on (first_of (codes "elf") rows)) (has_raw rows) (is_some (first_of (codes "tags") rows)) (is_some (first_of (codes "bytes") rows))
+    all_read (is_on (first_of (codes "elf") rows)) (has_other_input rows) (is_some (first_of (codes "tags") rows)) (is_some (first_of (codes "bytes") rows))
     (is_read address_in (first_of (codes "skip") rows)) (is_read address_in (first_of (codes "count") rows)) (is_read address_in (first_of (codes "at") rows))
     (is_read address_in (first_of (codes "holds") rows)) (is_read permissions_in (first_of (codes "perms") rows)) e
 

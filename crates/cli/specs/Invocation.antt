@@ -18,6 +18,7 @@ use Rattle.cli.specs.declared.invocation.PoolTexts.{PoolTexts}
 use Rattle.cli.specs.declared.invocation.ReplayOutput.{ReplayOutput}
 use Rattle.cli.specs.declared.invocation.ReplayOutput.TheVariants.{Summary, Sizes, Chart, Script, Series}
 use Rattle.cli.specs.declared.invocation.ReplayValues.{ReplayValues}
+use Rattle.cli.specs.declared.invocation.SearchValues.{SearchValues}
 use Rattle.cli.specs.declared.invocation.SummaryFormat.{SummaryFormat}
 use Rattle.cli.specs.declared.invocation.SummaryFormat.TheVariants as summary
 use Rattle.cc_io.specs.declared.input_form.ByteOrder.TheVariants.{Little, Big}
@@ -27,7 +28,7 @@ use Rattle.cc_io.specs.declared.format.Format.{Format}
 use Rattle.cc_io.specs.declared.format.Format.TheVariants.{Columns, Csv, Fixed, Json}
 use Rattle.cc_io.specs.declared.format.Format.TheVariants as format
 use Rattle.cli.specs.declared.invocation.Invocation.{Invocation}
-use Rattle.cli.specs.declared.invocation.Invocation.TheVariants.{Annotate, Ask, Decode, Map, Plan, Replay, RoundList, Run}
+use Rattle.cli.specs.declared.invocation.Invocation.TheVariants.{Annotate, Ask, Decode, DecodeCore, Map, Plan, Replay, RoundList, Run}
 use Rattle.cli.specs.declared.question.Base.{Base}
 use Rattle.cli.specs.declared.question.Question.{Question}
 use Rattle.cli.specs.declared.question.Question.TheVariants.{DrawWindow, Explain, ExplainLength, Round, Show}
@@ -109,6 +110,7 @@ command_name_of (Plan limit pool align stats file) = codes "plan"
 command_name_of (Map limit pool align svg file) = codes "map"
 command_name_of (Replay values file) = codes "replay"
 command_name_of (Decode input format values file) = codes "decode"
+command_name_of (DecodeCore format search file) = codes "decode"
 command_name_of (Annotate file) = codes "annotate"
 command_name_of (RoundList base file) = codes "round"
 
@@ -125,17 +127,21 @@ abbrev pub HasWordAlone : List Row → (word : Text) → Type 0
 HasWordAlone rows word =
     (first_of (codes "word") rows ≡ Some word) × (first_of (codes "length") rows ≡ None) × (first_of (codes "base") rows ≡ None)
 
--- `HasDecodeValues` holds if the numbers, the permissions and the file are those that the values of these options are, or `None` for
--- those that are not given, and `elf` and `unsealed` say whether `--elf` and `--unsealed` are given.
+-- `HasSearch` holds if the address and the permissions are those that the values of these options are, or `None` for those that are not
+-- given, and `unsealed` says whether `--unsealed` is given.
+pub record HasSearch (rows : List Row) (search : SearchValues) : Type 0 where
+  pub holds : IsRead address_in (first_of (codes "holds") rows) search.holds
+  pub perms : IsRead permissions_in (first_of (codes "perms") rows) search.perms
+  pub unsealed : search.unsealed ≡ is_on (first_of (codes "unsealed") rows)
+
+-- `HasDecodeValues` holds if the numbers, the file and the search are those that the values of these options are, or `None` for those that
+-- are not given.
 pub record HasDecodeValues (rows : List Row) (values : DecodeValues) : Type 0 where
-  pub elf : values.elf ≡ is_on (first_of (codes "elf") rows)
   pub skip : IsRead address_in (first_of (codes "skip") rows) values.skip
   pub count : IsRead address_in (first_of (codes "count") rows) values.count
   pub at : IsRead address_in (first_of (codes "at") rows) values.at
-  pub holds : IsRead address_in (first_of (codes "holds") rows) values.holds
-  pub perms : IsRead permissions_in (first_of (codes "perms") rows) values.perms
-  pub unsealed : values.unsealed ≡ is_on (first_of (codes "unsealed") rows)
   pub tags : first_of (codes "tags") rows ≡ option_map (λ text. text.now) values.tags
+  pub search : HasSearch rows values.search
 
 -- The output of `replay` by the format of tables and the options that are given: the summary without one. `None` if two are given.
 abbrev pub replay_output : SummaryFormat → (sizes svg script : Bool) → (each : Option (Bor Text)) → Option ReplayOutput
@@ -191,6 +197,12 @@ HasTexts rows (ExplainLength base size) =
     (first_of (codes "word") rows ≡ None) × (first_of (codes "length") rows ≡ Some size.now)
     × IsBase (unwrap_or (first_of (codes "base") rows) (codes "0")) base × (is_on (first_of (codes "svg") rows) ≡ false)
 
+-- Whether an option of other inputs than core files is given, which says their order, their place or their tags.
+abbrev pub has_other_input : List Row → Bool
+has_other_input rows =
+    is_some (first_of (codes "bytes") rows) || (is_some (first_of (codes "skip") rows) || (is_some (first_of (codes "count") rows)
+    || (is_some (first_of (codes "at") rows) || is_some (first_of (codes "tags") rows))))
+
 -- `HasValues` holds if the values of the command are those that clap found.
 abbrev pub HasValues : List Row → Invocation → Type 0
 HasValues rows (Ask question) = HasTexts rows question
@@ -204,8 +216,11 @@ HasValues rows (Map limit pool align svg file) =
     × (svg ≡ is_on (first_of (codes "svg") rows)) × HasPool rows pool × HasFile rows file
 HasValues rows (Replay values file) = HasReplayValues rows values × HasFile rows file
 HasValues rows (Decode input format values file) =
-    IsChosen format_named Columns (first_of (codes "format") rows) format
+    (is_on (first_of (codes "elf") rows) ≡ false) × IsChosen format_named Columns (first_of (codes "format") rows) format
     × IsChosen input_named Lines (first_of (codes "bytes") rows) input × HasDecodeValues rows values × HasFile rows file
+HasValues rows (DecodeCore format search file) =
+    (is_on (first_of (codes "elf") rows) ≡ true) × (has_other_input rows ≡ false)
+    × IsChosen format_named Columns (first_of (codes "format") rows) format × HasSearch rows search × HasFile rows file
 HasValues rows (Annotate file) = HasFile rows file
 HasValues rows (RoundList base file) =
     HasBase rows base × (first_of (codes "list") rows ≡ Some file.now) × (first_of (codes "length") rows ≡ None)
@@ -249,19 +264,13 @@ list_fault_of rows =
 
 -- The kind of error of the given values, if there is one: `--elf` excludes the options of other inputs, `--tags` requires `--bytes`, and the
 -- others are read.
-abbrev pub search_fault : (has_elf is_raw has_tags has_bytes is_read : Bool) → Option ErrorKind
-search_fault has_elf is_raw has_tags has_bytes is_read =
-    if has_elf && is_raw then Some ArgumentConflict else if has_tags && not has_bytes then Some MissingRequiredArgument else value_fault is_read
-
--- Whether an option of other inputs is given, which says their order, their place or their tags.
-abbrev pub has_raw : List Row → Bool
-has_raw rows =
-    is_some (first_of (codes "bytes") rows) || (is_some (first_of (codes "skip") rows) || (is_some (first_of (codes "count") rows)
-    || (is_some (first_of (codes "at") rows) || is_some (first_of (codes "tags") rows))))
+abbrev pub search_fault : (has_elf has_other has_tags has_bytes is_read : Bool) → Option ErrorKind
+search_fault has_elf has_other has_tags has_bytes is_read =
+    if has_elf && has_other then Some ArgumentConflict else if has_tags && not has_bytes then Some MissingRequiredArgument else value_fault is_read
 
 -- The kind of error of the values of `decode` in these rows, if there is one.
 abbrev pub search_fault_of : List Row → Option ErrorKind
-search_fault_of rows = search_fault (is_on (first_of (codes "elf") rows)) (has_raw rows) (is_some (first_of (codes "tags") rows)) (is_some (first_of (codes "bytes") rows))
+search_fault_of rows = search_fault (is_on (first_of (codes "elf") rows)) (has_other_input rows) (is_some (first_of (codes "tags") rows)) (is_some (first_of (codes "bytes") rows))
     (is_read address_in (first_of (codes "skip") rows) && (is_read address_in (first_of (codes "count") rows)
     && (is_read address_in (first_of (codes "at") rows)
     && (is_read address_in (first_of (codes "holds") rows) && is_read permissions_in (first_of (codes "perms") rows)))))

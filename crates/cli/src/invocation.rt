@@ -13,26 +13,30 @@ pub struct PoolTexts<'a> {
     pub length: &'a str,
 }
 
-/// The values of the options of `decode` that are numbers, names or a file, and whether `--elf` and `--unsealed` are
-/// given.
+/// The values of `--holds`, `--perms` and `--unsealed` of `decode`.
 #[derive(Clone, Copy)]
-pub struct DecodeValues<'a> {
-    /// Whether the input is an ELF file, whose segments are decoded.
-    pub elf: bool,
-    /// The number of bytes to skip.
-    pub skip: Option<u64>,
-    /// The maximum number of words to decode.
-    pub count: Option<u64>,
-    /// The address of the first word.
-    pub at: Option<u64>,
+pub struct SearchValues {
     /// The address that bounds contain.
     pub holds: Option<u64>,
     /// The permissions that a word has.
     pub perms: Option<Perms>,
     /// Whether only unsealed words are listed.
     pub unsealed: bool,
+}
+
+/// The part of an input of `decode`, its tags, and the search.
+#[derive(Clone, Copy)]
+pub struct DecodeValues<'a> {
+    /// The number of bytes to skip.
+    pub skip: Option<u64>,
+    /// The maximum number of words to decode.
+    pub count: Option<u64>,
+    /// The address of the first word.
+    pub at: Option<u64>,
     /// The name of the file of the tags.
     pub tags: Option<&'a str>,
+    /// The search.
+    pub search: SearchValues,
 }
 
 /// The format of the summary of `replay`.
@@ -131,9 +135,9 @@ pub enum Invocation<'a> {
         /// The trace's file; `None` and `-` are standard input.
         file: Option<&'a str>,
     },
-    /// `decode [--format FORMAT] [--bytes ORDER] [--elf] [--skip N] [--count N] [--at START] [--holds ADDRESS]
-    /// [--perms NAMES] [--unsealed] [--tags FILE] [FILE]`: lists the content of each word of a text, of raw bytes or of
-    /// a core file, or of those that a search finds or that are tagged.
+    /// `decode [--format FORMAT] [--bytes ORDER] [--skip N] [--count N] [--at START] [--holds ADDRESS] [--perms NAMES]
+    /// [--unsealed] [--tags FILE] [FILE]`: lists the content of each word of a text or of raw bytes, or of those that a
+    /// search finds or that are tagged.
     Decode {
         /// The form of the words in the input.
         input: InputForm,
@@ -142,6 +146,16 @@ pub enum Invocation<'a> {
         /// The values of the other options.
         values: DecodeValues<'a>,
         /// The words' file; `None` and `-` are standard input.
+        file: Option<&'a str>,
+    },
+    /// `decode --elf [--format FORMAT] [--holds ADDRESS] [--perms NAMES] [--unsealed] [FILE]`: lists the content of
+    /// each word of a core file, or of those that a search finds.
+    DecodeCore {
+        /// The format of the output.
+        format: Format,
+        /// The search.
+        search: SearchValues,
+        /// The core file; `None` and `-` are standard input.
         file: Option<&'a str>,
     },
     /// `round [--base B] --list FILE`: rounds each length of a list.

@@ -28,7 +28,7 @@ pub use error_writer::ErrorWriter;
 pub use fault::Fault;
 pub use input::{Content, InputName, Inputs, file_input};
 pub use invocation::{
-    DecodeValues, Invocation, PoolTexts, ReplayOutput, ReplayValues, SummaryFormat,
+    DecodeValues, Invocation, PoolTexts, ReplayOutput, ReplayValues, SearchValues, SummaryFormat,
 };
 pub use memory::{GlobalMemory, Memory};
 pub use outcome::{Ending, ending_of, ending_status, finish, tell};

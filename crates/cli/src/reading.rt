@@ -3,9 +3,9 @@ ghost use Rattle.std.specs.Prelude.{◌≡◌, ◌∷◌, [], IfErr, IfOk, None,
 ghost use Rattle.clap.specs.Walk.{texts};
 ghost use Rattle.clap.specs.Words.{App, FailsBy, first_of, found_of, kind_of, rows_of, subcommand_of};
 ghost use Rattle.clap.specs.Words.{subcommand_rows_of};
-ghost use Rattle.cli.specs.Invocation.{HasChoice, HasItsTexts, HasLimit, HasPoolTexts, HasText, HasValues};
-ghost use Rattle.cli.specs.Invocation.{HasWanted, IsInvocation, IsProgram, align_named, choice_fault_in, has_raw};
-ghost use Rattle.cli.specs.Invocation.{choice_fault_of, command_name_of, faults_of, format_named, format_names};
+ghost use Rattle.cli.specs.Invocation.{HasChoice, HasItsTexts, HasLimit, HasPoolTexts, HasText, HasValues, HasWanted};
+ghost use Rattle.cli.specs.Invocation.{IsInvocation, IsProgram, align_named, choice_fault_in, choice_fault_of};
+ghost use Rattle.cli.specs.Invocation.{command_name_of, faults_of, format_named, format_names, has_other_input};
 ghost use Rattle.cli.specs.Invocation.{input_named, is_taken, kinds_in, list_fault_of, named_fault, order_names};
 ghost use Rattle.cli.specs.Invocation.{search_fault_of, show_fault_of, summary_named, summary_names, value_fault};
 
@@ -15,7 +15,8 @@ use crate::mistakes::mistake;
 use crate::question::Question;
 use crate::values::{
     align_of, are_permissions, base_of, base_or_zero, decode_values, format_of, input_of,
-    is_address, is_on, limit_of, pool_texts, replay_values, shown_format, value_of, wanted_text,
+    is_address, is_on, limit_of, pool_texts, replay_values, search_values, shown_format, value_of,
+    wanted_text,
 };
 use clap::error::ErrorKind;
 use clap::{ArgMatches, Error};
@@ -133,7 +134,7 @@ fn show_fault(show: &ArgMatches<'_>) -> Option<ErrorKind>
 fn search_fault(decode: &ArgMatches<'_>) -> Option<ErrorKind>
     ensures { result ≡ search_fault_of (rows_of (found_of decode.now)) }
 {
-    if is_on(decode, "elf") && has_raw(decode) {
+    if is_on(decode, "elf") && has_other_input(decode) {
         return Some(ErrorKind::ArgumentConflict);
     }
     if has_value(decode, "tags") && !has_value(decode, "bytes") {
@@ -149,8 +150,8 @@ fn search_fault(decode: &ArgMatches<'_>) -> Option<ErrorKind>
 }
 
 /// Returns whether an option of other inputs is given.
-fn has_raw(decode: &ArgMatches<'_>) -> bool
-    ensures { result ≡ has_raw (rows_of (found_of decode.now)) }
+fn has_other_input(decode: &ArgMatches<'_>) -> bool
+    ensures { result ≡ has_other_input (rows_of (found_of decode.now)) }
 {
     has_value(decode, "bytes")
         || has_value(decode, "skip")
@@ -333,11 +334,21 @@ fn read_decode<'a>(matches: &ArgMatches<'a>) -> Invocation<'a>
     ensures command { command_name_of result ≡ codes "decode" }
     ensures values { HasValues (rows_of (found_of matches.now)) result }
 {
+    let format = format_of(matches);
+    let file = value_of(matches, "file");
+    if is_on(matches, "elf") {
+        let search = search_values(matches);
+        return Invocation::DecodeCore {
+            format,
+            search,
+            file,
+        };
+    }
     Invocation::Decode {
         input: input_of(matches),
-        format: format_of(matches),
+        format,
         values: decode_values(matches),
-        file: value_of(matches, "file"),
+        file,
     }
 }
 

@@ -3,11 +3,13 @@ ghost use Rattle.std.specs.Prelude.{◌≡◌, None, Some, codes, true, option_m
 ghost use Rattle.clap.specs.Words.{first_of, found_of, rows_of};
 ghost use Rattle.cc_values.specs.Values.{address_in, permissions_in};
 ghost use Rattle.cli.specs.Invocation.{HasBase, HasChoice, HasDecodeValues, HasLimit, HasOutput, HasPool};
-ghost use Rattle.cli.specs.Invocation.{HasPoolTexts, HasReplayValues, HasText, IsBase, IsChosen, IsLimit};
+ghost use Rattle.cli.specs.Invocation.{HasPoolTexts, HasReplayValues, HasSearch, HasText, IsBase, IsChosen, IsLimit};
 ghost use Rattle.cli.specs.Invocation.{IsRead, align_named, format_named, input_named, is_on, is_read};
 ghost use Rattle.cli.specs.Invocation.{search_fault_of, shown_format, summary_named};
 
-use crate::invocation::{DecodeValues, PoolTexts, ReplayOutput, ReplayValues, SummaryFormat};
+use crate::invocation::{
+    DecodeValues, PoolTexts, ReplayOutput, ReplayValues, SearchValues, SummaryFormat,
+};
 use crate::question::Base;
 use cc_bounds::Align;
 use cc_io::{ByteOrder, Format, InputForm};
@@ -117,21 +119,29 @@ pub(crate) fn pool_texts<'a>(matches: &ArgMatches<'a>) -> PoolTexts<'a>
     }
 }
 
-/// Returns the values of the options of `decode` that are numbers, names or a file, and whether `--elf` and
-/// `--unsealed` are given.
+/// Returns the part of an input of `decode`, its tags, and the search.
 pub(crate) fn decode_values<'a>(matches: &ArgMatches<'a>) -> DecodeValues<'a>
     requires { search_fault_of (rows_of (found_of matches.now)) ≡ None }
     ensures { HasDecodeValues (rows_of (found_of matches.now)) result }
 {
     DecodeValues {
-        elf: is_on(matches, "elf"),
         skip: address_of(matches, "skip"),
         count: address_of(matches, "count"),
         at: address_of(matches, "at"),
+        tags: value_of(matches, "tags"),
+        search: search_values(matches),
+    }
+}
+
+/// Returns the values of `--holds`, `--perms` and `--unsealed`.
+pub(crate) fn search_values(matches: &ArgMatches<'_>) -> SearchValues
+    requires { search_fault_of (rows_of (found_of matches.now)) ≡ None }
+    ensures { HasSearch (rows_of (found_of matches.now)) result }
+{
+    SearchValues {
         holds: address_of(matches, "holds"),
         perms: permissions_of(matches, "perms"),
         unsealed: is_on(matches, "unsealed"),
-        tags: value_of(matches, "tags"),
     }
 }
 

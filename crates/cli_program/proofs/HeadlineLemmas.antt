@@ -9,7 +9,7 @@ use Rattle.cc_machine.specs.State.{State, initial_state}
 use Rattle.cli.specs.Devices.{Console, OnDevices}
 use Rattle.cli.proofs.DeviceLemmas.{on_devices-map}
 use Rattle.cli.specs.declared.invocation.Invocation.{Invocation}
-use Rattle.cli.specs.declared.invocation.Invocation.TheVariants.{Annotate, Ask, Decode, Map, Plan, Replay, RoundList, Run}
+use Rattle.cli.specs.declared.invocation.Invocation.TheVariants.{Annotate, Ask, Decode, DecodeCore, Map, Plan, Replay, RoundList, Run}
 use Rattle.cli.specs.declared.input.InputName.{InputName}
 use Rattle.cli.specs.Input.{file_input}
 use Rattle.cc_syntax.specs.Planning.{pool_of}
@@ -61,6 +61,7 @@ script_effect P replay terminals (Ask question) script is holds = absurd (cc is)
 script_effect P replay terminals (Map limit pool align svg file) script is holds = absurd (cc is)
 script_effect P replay terminals (Replay values file) script is holds = absurd (cc is)
 script_effect P replay terminals (Decode input format texts file) script is holds = absurd (cc is)
+script_effect P replay terminals (DecodeCore format search file) script is holds = absurd (cc is)
 script_effect P replay terminals (Annotate file) script is holds = absurd (cc is)
 script_effect P replay terminals (RoundList base file) script is holds = absurd (cc is)
 

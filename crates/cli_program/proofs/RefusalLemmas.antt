@@ -7,7 +7,7 @@ use Rattle.clap.specs.declared.error.kind.ErrorKind.{ErrorKind}
 use Rattle.clap.specs.declared.error.kind.ErrorKind.TheVariants.{OutOfMemory, ValueValidation}
 use Rattle.cli.specs.Invocation.{IsInvocation, IsProgram, faults_of, kinds_in, value_fault}
 use Rattle.cli.specs.declared.invocation.Invocation.{Invocation}
-use Rattle.cli.specs.declared.invocation.Invocation.TheVariants.{Annotate, Ask, Decode, Map, Plan, Replay, RoundList, Run}
+use Rattle.cli.specs.declared.invocation.Invocation.TheVariants.{Annotate, Ask, Decode, DecodeCore, Map, Plan, Replay, RoundList, Run}
 use Rattle.cli_program.specs.Execution.{ReplayCommand}
 use Rattle.cli_program.specs.Refusals.{EndsByArguments, FindsReplay, FindsTexts, has_good_texts}
 
@@ -39,6 +39,7 @@ only_replay replay found told = go told.0 told.1 told.2
     go (Plan limit pool align stats file) is refused = cc refused
     go (Map limit pool align svg file) is refused = cc refused
     go (Decode input format values file) is refused = cc refused
+    go (DecodeCore format search file) is refused = cc refused
     go (Annotate file) is refused = cc refused
     go (RoundList base file) is refused = cc refused
 

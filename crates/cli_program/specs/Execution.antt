@@ -1,6 +1,6 @@
 -- The effect of each command on its devices: the program's own theorem.
 use Rattle.std.specs.Borrow.{Bor}
-use Rattle.std.specs.Prelude.{ℕ, ◌≡◌, false, IsTrue, Bool, [], List, ⊤, None, Option, Result, Ok, Err, Some}
+use Rattle.std.specs.Prelude.{ℕ, ◌≡◌, false, IsTrue, Bool, [], List, ⊤, None, Option, Result, Ok, Err, Some, IsSome}
 use Rattle.std.specs.Option.{option_map}
 use Rattle.std.specs.Result.{result_ok}
 use Rattle.clap.specs.Words.{Text}
@@ -18,11 +18,12 @@ use Rattle.cli.specs.declared.input.Content.TheVariants as content
 use Rattle.cli.specs.declared.input.InputName.{InputName}
 use Rattle.cli.specs.declared.invocation.Invocation.{Invocation}
 use Rattle.cli.specs.declared.invocation.ReplayValues.{ReplayValues}
-use Rattle.cli.specs.declared.invocation.Invocation.TheVariants.{Annotate, Ask, Decode, Map, Plan, Replay, RoundList, Run}
+use Rattle.cli.specs.declared.invocation.Invocation.TheVariants.{Annotate, Ask, Decode, DecodeCore, Map, Plan, Replay, RoundList, Run}
 use Rattle.cli.specs.Devices.{Console, FromInput, Traffic}
 use Rattle.cli.specs.Input.{AreUnasked, file_input}
+use Rattle.cli_words.specs.DecodeOptions.{options_of, part_of, search_of}
 use Rattle.cli_words.specs.Questions.{has_hint}
-use Rattle.cli_words.specs.Tasks.{AnnotatesWords, AnswersQuestion, DecodesInput, RoundsLengths, TakesMemory}
+use Rattle.cli_words.specs.Tasks.{AnnotatesWords, AnswersQuestion, ListsCoreFile, ListsInput, RoundsLengths}
 use Rattle.cli_scripts.specs.Report.{report_of}
 use Rattle.cli_scripts.specs.Runs.{DrawsRun, ReportsRun, StarvesRun}
 use Rattle.cli_scripts.specs.declared.report.Report.{Report}
@@ -121,9 +122,15 @@ effect_of replay terminals (Map limit pool align svg file) =
 effect_of replay terminals (Replay values file) = replay.effect values file
 effect_of replay terminals (Decode input format values file) = record {
   input = Some (record { input = file_input file; content = content.Words; tags = values.tags });
-  Does = DecodesInput values.elf input format values (file_input file);
-  Starves = λ console. TakesMemory values × WritesNothing console;
-  Reports = IsTrue terminals.errors × (values.elf ≡ false);
+  Does = ListsInput values.tags (file_input file) (part_of values) (options_of input format values);
+  Starves = λ console. IsSome values.tags × WritesNothing console;
+  Reports = IsTrue terminals.errors;
+}
+effect_of replay terminals (DecodeCore format search file) = record {
+  input = Some (record { input = file_input file; content = content.Words; tags = None });
+  Does = ListsCoreFile (file_input file) format (search_of false search);
+  Starves = WritesNothing;
+  Reports = ⊥;
 }
 effect_of replay terminals (Annotate file) = reads (file_input file) content.Words AnnotatesWords (λ console. ⊥) ⊥
 effect_of replay terminals (RoundList base file) =

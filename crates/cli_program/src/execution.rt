@@ -10,7 +10,7 @@ use crate::replay_support::ReplaySupport;
 use cc_io::{Sink, Summary};
 use cli::{Fault, Inputs, Invocation};
 use cli_scripts::{Report, RunMemory, Terminals, map_file, plan_file, run_file};
-use cli_words::{annotate_file, ask, decode_file, round_file};
+use cli_words::{annotate_file, ask, decode_core_file, decode_file, round_file};
 
 /// Executes a command: reads its input, writes its output to `sink`, and reports a run on `errors`. If standard error
 /// is a terminal, each command writes its hints there too.
@@ -112,6 +112,11 @@ pub fn execute<M: RunMemory + ReplaySupport, I: Inputs, W: Sink, E: Sink>(
                 errors,
             )
         }
+        Invocation::DecodeCore {
+            format,
+            search,
+            file,
+        } => decode_core_file(memory, format, search, inputs, source, file, sink),
         Invocation::Annotate { file } => annotate_file(inputs, source, file, sink),
         Invocation::RoundList { base, file } => {
             round_file(

@@ -15,8 +15,6 @@ use Rattle.cc_explain.specs.Core.{ListsCore}
 use Rattle.cc_explain.specs.Correct.{Lists}
 use Rattle.cc_explain.specs.declared.options.Search.{Search}
 use Rattle.cc_io.specs.declared.format.Format.{Format}
-use Rattle.cc_io.specs.declared.input_form.InputForm.{InputForm}
-use Rattle.cli.specs.declared.invocation.DecodeValues.{DecodeValues}
 use Rattle.cc_explain.proofs.SkipLemmas.{lists_further}
 use Rattle.cli.specs.declared.question.Base.{Base}
 use Rattle.cli.specs.Devices.{Console, FromInput, OnDevices, console_of}
@@ -24,8 +22,7 @@ use Rattle.cli.proofs.DeviceLemmas.{on_devices-map}
 use Rattle.cli_words.specs.BareDigits.{is_bare}
 use Rattle.cli_words.specs.NumberHint.{after_base, hint_if}
 use Rattle.cli_words.specs.Questions.{address_of}
-use Rattle.cli_words.specs.DecodeOptions.{options_of, part_of, search_of}
-use Rattle.cli_words.specs.Tasks.{DecodesInput, GaveAll, ListsCoreFile, ListsInput, ListsWords, RoundsLengths, SeesLengths}
+use Rattle.cli_words.specs.Tasks.{GaveAll, ListsCoreFile, ListsInput, ListsWords, RoundsLengths, SeesLengths}
 use Rattle.cli.specs.declared.fault.Fault.{Fault}
 use Rattle.cli.specs.declared.fault.Fault.TheVariants as fault
 use Rattle.cli.specs.declared.input.InputName.{InputName}
@@ -61,27 +58,17 @@ lists_tagged tags path input part options bits items known bytes_of source_now o
     (subst (λ (k : InputName → Option (List ℕ)). OnDevices (FromInput input (console_of k source_now output output_now errors errors_now) (ListsWords part (options (Some bits)))) result)
     kept f))
 
--- The listing of an input without `--elf`.
-pub decodes_words : (elf : Bool) (form : InputForm) (format : Format) (values : DecodeValues) (input : InputName) (console : Console) (result : Result Summary Fault) → elf ≡ false
-    → OnDevices (ListsInput values.tags input (part_of values) (options_of form format values) console) result → OnDevices (DecodesInput elf form format values input console) result
-decodes_words elf form format values input console result off f =
-    subst (λ (b : Bool). OnDevices (DecodesInput b form format values input console) result) (sym off) f
-
--- The listing of an input with it.
-pub decodes_core : (elf : Bool) (form : InputForm) (format : Format) (values : DecodeValues) (search : Option Search) (name input : InputName) (console : Console) (result : Result Summary Fault)
-    → elf ≡ true → search ≡ search_of false values.holds values.perms values.unsealed → name ≡ input
-    → OnDevices (ListsCoreFile name format search console) result → OnDevices (DecodesInput elf form format values input console) result
-decodes_core elf form format values search name input console result on is_search is_name f =
-    subst (λ (b : Bool). OnDevices (DecodesInput b form format values input console) result) (sym on)
-    (subst (λ (s : Option Search). OnDevices (ListsCoreFile input format s console) result) is_search
-    (subst (λ (n : InputName). OnDevices (ListsCoreFile n format search console) result) is_name f))
-
 -- The listing of the bytes that were read.
-pub lists_read : (format : Format) (search : Option Search) (file items : List ℕ) (input : InputName) (console : Console) (io : Result Summary IoError)
-    → file ≡ items → GaveAll (console.input input) console.source_now items → ListsCore format search file console.output console.output_now io
-    → ListsCoreFile input format search console io
-lists_read format search file items input console io same read lists =
-    inr (items, read, subst (λ (l : List ℕ). ListsCore format search l console.output console.output_now io) same lists)
+pub lists_read : (format : Format) (search wanted : Option Search) (file items : List ℕ) (name input : InputName) (console : Console) (io : Result Summary IoError)
+    → search ≡ wanted → name ≡ input → file ≡ items → GaveAll (console.input name) console.source_now items
+    → ListsCore format search file console.output console.output_now io → ListsCoreFile input format wanted console io
+lists_read format search wanted file items name input console io is_search is_name same read lists =
+    inr (
+      items,
+      subst (λ (n : InputName). GaveAll (console.input n) console.source_now items) is_name read,
+      subst (λ (s : Option Search). ListsCore format s items console.output console.output_now io) is_search
+          (subst (λ (l : List ℕ). ListsCore format search l console.output console.output_now io) same lists),
+    )
 
 own : (bytes : Option (List ℕ)) → IfSome bytes (λ known. bytes ≡ Some known)
 own None = tt

@@ -1,7 +1,6 @@
 -- The options of a listing that the values of `decode` request.
-use Rattle.std.specs.Prelude.{ℕ, Bool, ◌/◌, false, not, List, Option, Some, None, is_some, option_map, unwrap_or}
+use Rattle.std.specs.Prelude.{ℕ, Bool, ◌/◌, ◌||◌, not, List, Option, Some, None, is_some, option_map, unwrap_or, if◌then◌else◌}
 use Rattle.std.specs.Borrow.{Bor}
-use Rattle.cc_word.specs.declared.perms.Perms.{Perms}
 use Rattle.cc_io.specs.declared.format.Format.{Format}
 use Rattle.cc_io.specs.declared.input_form.InputForm.{InputForm}
 use Rattle.cc_explain.specs.declared.options.Options.{Options}
@@ -9,12 +8,14 @@ use Rattle.cc_explain.specs.declared.options.Part.{Part}
 use Rattle.cc_explain.specs.declared.options.Search.{Search}
 use Rattle.cc_explain.specs.declared.options.Tags.{Tags}
 use Rattle.cli.specs.declared.invocation.DecodeValues.{DecodeValues}
+use Rattle.cli.specs.declared.invocation.SearchValues.{SearchValues}
 
 -- The search of `--holds`, `--perms` and `--unsealed`: none if none of them is given. A tagged word needs no permission.
-abbrev pub search_of : (tagged : Bool) (holds : Option ℕ) (perms : Option Perms) (unsealed : Bool) → Option Search
-search_of tagged None None false = None
-search_of tagged holds perms unsealed =
-    Some (record { holds = holds; perms = unwrap_or perms (record { 0 = 0 }); needs_permission = not tagged; unsealed = unsealed })
+abbrev pub search_of : (tagged : Bool) → SearchValues → Option Search
+search_of tagged values =
+    if is_some values.holds || (is_some values.perms || values.unsealed)
+    then Some (record { holds = values.holds; perms = unwrap_or values.perms (record { 0 = 0 }); needs_permission = not tagged; unsealed = values.unsealed })
+    else None
 
 -- The tags of the words after the first `skipped` bytes, if the file of the tags has these bytes: a bit for each sixteen bytes of the
 -- input.
@@ -28,7 +29,7 @@ options_of input format values bits = record {
   format = format;
   at = values.at;
   tags = option_map (tags_after (unwrap_or values.skip 0)) bits;
-  search = search_of (is_some bits) values.holds values.perms values.unsealed;
+  search = search_of (is_some bits) values.search;
 }
 
 -- The part of the input that is listed: nothing is skipped if `--skip` is not given.

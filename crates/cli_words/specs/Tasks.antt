@@ -12,21 +12,18 @@ use Rattle.cc_io.specs.CommandOutput.{WritesAnswer}
 use Rattle.cli_words.specs.BareDigits.{is_bare}
 use Rattle.cli_words.specs.RoundList.{RoundsList}
 use Rattle.cc_io.specs.declared.format.Format.{Format}
-use Rattle.cc_io.specs.declared.input_form.InputForm.{InputForm}
 use Rattle.cc_explain.specs.declared.options.Options.{Options}
 use Rattle.cc_explain.specs.declared.options.Search.{Search}
 use Rattle.cc_explain.specs.declared.options.Part.{Part}
 use Rattle.cc_explain.specs.Annotate.{AnnotatesGiven}
 use Rattle.cc_explain.specs.Core.{ListsCore}
 use Rattle.cc_explain.specs.Correct.{Lists}
-use Rattle.cli.specs.declared.invocation.DecodeValues.{DecodeValues}
 use Rattle.cli.specs.declared.question.Base.{Base}
 use Rattle.cli.specs.declared.question.Question.{Question}
 use Rattle.cc_io.specs.Devices.{InputState}
 use Rattle.cli.specs.Devices.{Console, FromInput, GivesAll, Traffic}
 use Rattle.cli.specs.declared.input.InputName.{InputName}
 use Rattle.cli.specs.declared.input.InputName.TheVariants.{File}
-use Rattle.cli_words.specs.DecodeOptions.{options_of, part_of, search_of}
 use Rattle.cli_words.specs.NumberHint.{after_base, hint_if}
 use Rattle.cli_words.specs.Questions.{address_of, IsAnswerTo, IsUnanswerable, question_hint}
 
@@ -64,17 +61,6 @@ abbrev pub ListsCoreFile : (input : InputName) → Format → Option Search → 
 ListsCoreFile input format search console result =
     ((result ≡ Err Read) × (console.output_now.taken ≡ console.output.taken))
     ⊎ ((bytes : List ℕ) × GaveAll (console.input input) console.source_now bytes × ListsCore format search bytes console.output console.output_now result)
-
--- DecodesInput holds if the listing that `decode` requests was written, up to a failure: with `--elf`, that of a core file.
-abbrev pub DecodesInput : (elf : Bool) → InputForm → Format → DecodeValues → (input : InputName) → Console → Result Summary IoError → Type 0
-DecodesInput true form format values input console result =
-    ListsCoreFile input format (search_of false values.holds values.perms values.unsealed) console result
-DecodesInput false form format values input console result =
-    ListsInput values.tags input (part_of values) (options_of form format values) console result
-
--- TakesMemory holds if memory is allocated for a listing: for the tags, or for a core file.
-abbrev pub TakesMemory : DecodeValues → Type 0
-TakesMemory values = IsTrue values.elf ⊎ IsSome values.tags
 
 -- AnnotatesWords holds if the text that the input gave was written, with the line of each word after the word, up to a failure.
 abbrev pub AnnotatesWords : Traffic → Result Summary IoError → Type 0

@@ -6,7 +6,7 @@ use bitflags::Flags;
 use cc_explain::{Options, Part, Search, Tags};
 use cc_io::{Format, InputForm};
 use cc_word::Perms;
-use cli::DecodeValues;
+use cli::{DecodeValues, SearchValues};
 
 /// Returns the part of the input that is listed.
 pub(crate) fn part_of(values: &DecodeValues<'_>) -> Part
@@ -32,7 +32,7 @@ pub(crate) fn options_of<'a>(
         format,
         at: values.at,
         tags: tags_after(values.skip, bits),
-        search: search_of(bits.is_some(), values.holds, values.perms, values.unsealed),
+        search: search_of(bits.is_some(), values.search),
     }
 }
 
@@ -50,21 +50,17 @@ fn tags_after<'a>(skipped: Option<u64>, bits: Option<&'a [u8]>) -> Option<Tags<'
 }
 
 /// Returns the search of `--holds`, `--perms` and `--unsealed`, or `None` if none is given.
-pub(crate) fn search_of(
-    tagged: bool,
-    holds: Option<u64>,
-    perms: Option<Perms>,
-    unsealed: bool,
-) -> Option<Search>
-    ensures { result ≡ search_of tagged holds perms unsealed }
+pub(crate) fn search_of(tagged: bool, values: SearchValues) -> Option<Search>
+    ensures { result ≡ search_of tagged values }
 {
-    if holds.is_none() && perms.is_none() && !unsealed {
-        return None;
+    if values.holds.is_some() || values.perms.is_some() || values.unsealed {
+        Some(Search {
+            holds: values.holds,
+            perms: values.perms.unwrap_or(Perms::empty()),
+            needs_permission: !tagged,
+            unsealed: values.unsealed,
+        })
+    } else {
+        None
     }
-    Some(Search {
-        holds,
-        perms: perms.unwrap_or(Perms::empty()),
-        needs_permission: !tagged,
-        unsealed,
-    })
 }

@@ -18,4 +18,4 @@ pub use explaining_bounds::explain_length;
 pub use length_list::round_list;
 pub use questions::ask;
 pub use rounding::show_round;
-pub use words::{annotate_file, decode_file, round_file};
+pub use words::{annotate_file, decode_core_file, decode_file, round_file};

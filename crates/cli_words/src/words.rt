@@ -2,28 +2,29 @@
 ghost use Rattle.std.specs.Prelude.{◌≡◌, ◌≢◌, ◌↔◌, IfOk, IfSome, IsSome, IsTrue, false, true, Err, OnErr};
 ghost use Rattle.cli.specs.Devices.{FromInput, IsEnd, OnDevices, OnOutput, console_of};
 ghost use Rattle.cli.specs.Input.{AreUnasked, IsFile, OpensFile, file_input};
-ghost use Rattle.cli_words.specs.DecodeOptions.{options_of, part_of};
-ghost use Rattle.cli_words.specs.Tasks.{AnnotatesWords, DecodesInput, ListsCoreFile, ListsWords, RoundsLengths};
-ghost use Rattle.cli_words.specs.Tasks.{GaveAll, SeesLengths, TakesMemory};
+ghost use Rattle.cli_words.specs.DecodeOptions.{options_of, part_of, search_of};
+ghost use Rattle.cli_words.specs.Tasks.{AnnotatesWords, GaveAll, ListsCoreFile, ListsInput, ListsWords};
+ghost use Rattle.cli_words.specs.Tasks.{RoundsLengths, SeesLengths};
 
 use crate::decode_options::{options_of, part_of, search_of};
 use crate::file_hint::hint_file;
 use crate::length_list::round_list;
 use crate::number_hint::hint_list;
 use crate::questions::address_of;
-use cc_explain::{Options, Part, Search, annotate, decode_core, decode_words};
+use cc_explain::{Options, Part, annotate, decode_core, decode_words};
 use cc_io::{Format, InputForm, Sink, Summary};
-use cli::{Base, Content, DecodeValues, Fault, InputName, Inputs, Memory, file_input};
+use cli::{
+    Base, Content, DecodeValues, Fault, InputName, Inputs, Memory, SearchValues, file_input,
+};
 
 /// Writes a row for each listed word of the part of the input that FILE names, of the tagged ones if there is a file of
-/// tags, which is read first, or of the segments of a core file, which is read as a whole. Then, except with `elf`,
-/// writes the hint on an ELF64 file, or on lines that end in CR LF, to `errors`, if hints are given and a file was
-/// decoded from its first byte on.
+/// tags, which is read first. Then writes the hint on an ELF64 file, or on lines that end in CR LF, to `errors`, if
+/// hints are given and a file was decoded from its first byte on.
 ///
 /// Requires: no device has failed.
 /// Errors: `Open` if the input or the file of the tags cannot be opened, and nothing was written then; `Memory` if the
-/// tags or the core file do not fit in memory, and nothing was written then; `Read` if a read fails; `Write` if and
-/// only if the sink failed. No hint is written then.
+/// tags do not fit in memory, and nothing was written then; `Read` if a read fails; `Write` if and only if the sink
+/// failed. No hint is written then.
 pub fn decode_file<M: Memory, I: Inputs, W: Sink, E: Sink>(
     memory: &mut M,
     input: InputForm,
@@ -42,29 +43,18 @@ pub fn decode_file<M: Memory, I: Inputs, W: Sink, E: Sink>(
     requires sink { (W.state sink.old).has_failed ≡ false }
     requires errors { (E.state errors.old).has_failed ≡ false }
     ensures decodes { OnOutput (I.bytes_of inputs.old) (I.Opened.state source.new) (W.state sink.old) (W.state sink.new)
-        (DecodesInput values.entry.elf input format values.entry (file_input file.entry)) result }
-    ensures silent { ¬ (IsTrue hints × (values.entry.elf ≡ false)) → errors.new ≡ errors.old }
+        (ListsInput values.entry.tags (file_input file.entry) (part_of values.entry)
+        (options_of input format values.entry)) result }
+    ensures silent { ¬ IsTrue hints → errors.new ≡ errors.old }
     ensures unreported { OnErr result (errors.new ≡ errors.old) }
     ensures open { result ≡ Err Fault.Open → OpensFile values.entry.tags (file_input file.entry) }
     ensures allocates { (result ≡ Err Fault.Memory) ↔ (M.has_failed memory.new ≡ true) }
-    ensures starved { result ≡ Err Fault.Memory → TakesMemory values.entry × (sink.new ≡ sink.old) }
+    ensures starved { result ≡ Err Fault.Memory → IsSome values.entry.tags × (sink.new ≡ sink.old) }
     ensures asked { AreUnasked values.entry.tags (file_input file.entry) Content.Words (I.last_asked inputs.new)
         → (inputs.new ≡ inputs.old) × (source.new ≡ source.old) }
     ensures end { IsEnd (I.has_refused inputs.new) (I.Opened.state source.new) (W.state sink.old) (W.state sink.new)
         result }
 {
-    if values.elf {
-        let search = search_of(false, values.holds, values.perms, values.unsealed);
-        return list_core(
-            memory,
-            format,
-            search,
-            inputs,
-            source,
-            file_input(file),
-            sink,
-        );
-    }
     match values.tags {
         None => {
             list_file(
@@ -83,14 +73,18 @@ pub fn decode_file<M: Memory, I: Inputs, W: Sink, E: Sink>(
     }
 }
 
-/// Writes a row for each listed word of the core file that an input is.
-fn list_core<M: Memory, I: Inputs, W: Sink>(
+/// Writes a row for each listed word of the segments of the core file that FILE names, which is read as a whole.
+///
+/// Requires: no device has failed.
+/// Errors: `Open` if the input cannot be opened, and nothing was written then; `Memory` if the file does not fit in
+/// memory, and nothing was written then; `Read` if a read fails; `Write` if and only if the sink failed.
+pub fn decode_core_file<M: Memory, I: Inputs, W: Sink>(
     memory: &mut M,
     format: Format,
-    search: Option<Search>,
+    search: SearchValues,
     inputs: &mut I,
     source: &mut I::Opened,
-    input: InputName<'_>,
+    file: Option<&str>,
     sink: &mut W,
 ) -> Result<Summary, Fault>
     requires memory { M.has_failed memory.old ≡ false }
@@ -98,16 +92,17 @@ fn list_core<M: Memory, I: Inputs, W: Sink>(
     requires inputs { I.has_refused inputs.old ≡ false }
     requires sink { (W.state sink.old).has_failed ≡ false }
     ensures lists { OnOutput (I.bytes_of inputs.old) (I.Opened.state source.new) (W.state sink.old) (W.state sink.new)
-        (ListsCoreFile input.entry format search) result }
-    ensures open { result ≡ Err Fault.Open → IsFile input.entry }
+        (ListsCoreFile (file_input file.entry) format (search_of false search)) result }
+    ensures open { result ≡ Err Fault.Open → IsFile (file_input file.entry) }
     ensures allocates { (result ≡ Err Fault.Memory) ↔ (M.has_failed memory.new ≡ true) }
     ensures starved { result ≡ Err Fault.Memory → sink.new ≡ sink.old }
-    ensures asked { I.last_asked inputs.new input.entry Content.Words ≡ false → (inputs.new ≡ inputs.old)
-        × (source.new ≡ source.old) }
+    ensures asked { I.last_asked inputs.new (file_input file.entry) Content.Words ≡ false
+        → (inputs.new ≡ inputs.old) × (source.new ≡ source.old) }
     ensures end { IsEnd (I.has_refused inputs.new) (I.Opened.state source.new) (W.state sink.old) (W.state sink.new)
         result }
 {
-    match read_input(memory, input, inputs, source) {
+    let search = search_of(false, search);
+    match read_input(memory, file_input(file), inputs, source) {
         Ok(bytes) => Ok(decode_core(bytes.as_slice(), format, search, sink)?),
         Err(fault) => Err(fault),
     }

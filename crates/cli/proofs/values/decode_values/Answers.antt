@@ -10,9 +10,3 @@ address_of-requires-2 c = (reads (rows_of (found_of c.args.matches.now)) c.requi
 
 pub address_of-requires-3 : goal.address_of-requires-3
 address_of-requires-3 c = (reads (rows_of (found_of c.args.matches.now)) c.requires).2
-
-pub address_of-requires-4 : goal.address_of-requires-4
-address_of-requires-4 c = (reads (rows_of (found_of c.args.matches.now)) c.requires).3
-
-pub permissions_of-requires : goal.permissions_of-requires
-permissions_of-requires c = (reads (rows_of (found_of c.args.matches.now)) c.requires).4

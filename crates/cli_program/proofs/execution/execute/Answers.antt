@@ -143,6 +143,13 @@ returns-in-Decode-clause-silent g c =
     g.M.ReplaySupport.replay c.args.terminals _ _ c.in-Decode.is
     c.decode_file.ensures.silent
 
+pub returns-in-DecodeCore-clause-executes : goal.returns-in-DecodeCore-clause-executes
+returns-in-DecodeCore-clause-executes g c =
+    of_equal (λ (effect : Effect). OnDevices (effect.Does (console_of (g.I.Inputs.bytes_of c.args.inputs.now) (g.I.Opened.Source.state c.decode_core_file.new.source) (g.W.Sink.state c.args.sink.now)
+    (g.W.Sink.state c.decode_core_file.new.sink) (g.E.Sink.state c.args.errors.now) (g.E.Sink.state c.args.errors.now))) c.decode_core_file.result)
+    g.M.ReplaySupport.replay c.args.terminals _ _ c.in-DecodeCore.is
+    (c.decode_core_file.ensures.lists (g.E.Sink.state c.args.errors.now) (g.E.Sink.state c.args.errors.now))
+
 pub returns-in-Annotate-clause-executes : goal.returns-in-Annotate-clause-executes
 returns-in-Annotate-clause-executes g c =
     of_equal (λ (effect : Effect). OnDevices (effect.Does (console_of (g.I.Inputs.bytes_of c.args.inputs.now) (g.I.Opened.Source.state c.annotate_file.new.source) (g.W.Sink.state c.args.sink.now)
