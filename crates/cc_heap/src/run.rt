@@ -56,15 +56,15 @@ impl<P: Placer> Run<P> {
         ensures sound { IsSoundMemory self.new.heap.settings.align self.new.heap.memory }
     {
         let align = self.heap.settings().align;
-        let told = self.heap.event(event)?;
+        let outcome = self.heap.event(event)?;
         let was_lost = self.is_lost(event.freed_id());
         self.note(event.freed_id(), false)?;
-        self.note(event.made_id(), is_not_made(told.making))?;
-        count_made(&mut self.sizes, align, made_size(event, told.making));
+        self.note(event.made_id(), is_not_made(outcome.making))?;
+        count_made(&mut self.sizes, align, made_size(event, outcome.making));
         Ok(Outcome {
-            unknown: told.unknown && !was_lost,
-            lost: told.unknown && was_lost,
-            ..told
+            unknown: outcome.unknown && !was_lost,
+            lost: outcome.unknown && was_lost,
+            ..outcome
         })
     }
 

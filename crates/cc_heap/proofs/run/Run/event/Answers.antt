@@ -10,7 +10,7 @@ returns-clause-is_event g c =
     ∙ ap (λ (r : RunState). r.sizes) c.self.view_is in
     let settings = c.settings-align.ensures ∙ ap (λ (r : RunState). r.heap.settings) c.self.view_is in
     record {
-      told = c.in_ok-told.told;
+      told = c.in_ok-outcome.outcome;
       is_event = search rules;
       is_told = search rules;
       lost = λ id.
