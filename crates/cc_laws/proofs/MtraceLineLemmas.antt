@@ -13,8 +13,8 @@ use Rattle.cc_word.specs.declared.refusal.Refusal.{Refusal}
 use Rattle.cc_values.specs.Values.{address_in, both}
 use Rattle.cc_values.specs.Numbers.{within_limit}
 use Rattle.cc_values.proofs.ReadBackLemmas.{hexadecimal-read}
-use Rattle.cc_replay.specs.declared.report.Report.{Report}
-use Rattle.cc_replay.specs.declared.report.Report.TheVariants as report
+use Rattle.cc_replay.specs.declared.report.LineReport.{LineReport}
+use Rattle.cc_replay.specs.declared.report.LineReport.TheVariants as report
 use Rattle.cc_replay.specs.Reports.{object_in, pointer_in}
 use Rattle.cc_replay.specs.Mtrace.{IsCaller, after_caller, allocation_line, free_line, mtrace_in, spaced_in}
 

@@ -1,7 +1,7 @@
 //! A law of the lines of a format. The contract of the function is the law, and its body is empty.
 ghost use Rattle.std.specs.Prelude.{◌≡◌, ◌<◌, ◌≤◌, ◌^◌, ℕ, List, Ok, length};
 ghost use Rattle.cc_replay.specs.Mtrace.{IsCaller, allocation_line, free_line, mtrace_in};
-ghost use Rattle.cc_replay.specs.declared.report.Report.TheVariants.{Allocation, Free};
+ghost use Rattle.cc_replay.specs.declared.report.LineReport.TheVariants.{Allocation, Free};
 
 /// Proves that a line of at most 128 bytes, as `mtrace` writes it for an object that is made or
 /// freed, reports that object.

@@ -3,7 +3,7 @@ use Rattle.std.proofs.Common.{suc, ◌≤◌, take, length-take, if◌then◌els
 use Rattle.std.proofs.lemmas.Bool.{cases_lt, lt-ltb}
 use Rattle.std.proofs.lemmas.List.{take_all}
 use Rattle.cc_word.specs.declared.refusal.Refusal.TheVariants as refusal
-use Rattle.cc_replay.specs.declared.report.Report.TheVariants as report
+use Rattle.cc_replay.specs.declared.report.LineReport.TheVariants as report
 use Rattle.cc_replay.specs.Heaptrack.{heaptrack_in, is_told}
 use Rattle.cc_replay.specs.Ltrace.{ltrace_in}
 use Rattle.cc_replay.specs.Mtrace.{mtrace_in}

@@ -5,9 +5,9 @@ use Rattle.cc_word.specs.declared.refusal.Refusal.TheVariants.{Syntax}
 use Rattle.cc_replay.specs.Heaptrack.{heaptrack_in}
 use Rattle.cc_replay.specs.Ltrace.{ltrace_in}
 use Rattle.cc_replay.specs.Mtrace.{mtrace_in}
-use Rattle.cc_replay.specs.declared.report.Report.{Report}
-use Rattle.cc_replay.specs.declared.report.Report.TheVariants.{Nothing, Failure, Allocation, Clearing, Reallocation, From, To}
-use Rattle.cc_replay.specs.declared.report.Report.TheVariants as report
+use Rattle.cc_replay.specs.declared.report.LineReport.{LineReport}
+use Rattle.cc_replay.specs.declared.report.LineReport.TheVariants.{Nothing, Failure, Allocation, Clearing, Reallocation, From, To}
+use Rattle.cc_replay.specs.declared.report.LineReport.TheVariants as report
 use Rattle.cc_placer.specs.declared.event.Event.{Event}
 use Rattle.cc_placer.specs.declared.event.Event.TheVariants as event
 use Rattle.cc_replay.specs.declared.formats.Entry.{Entry}
@@ -16,7 +16,7 @@ use Rattle.cc_replay.specs.declared.formats.TraceFormat.TheVariants.{Own, Mtrace
 use Rattle.cc_replay.specs.Trace.{entry_of}
 
 -- The event of a report that is one alone. A pointer is an id.
-abbrev pub event_of : Report → Option Event
+abbrev pub event_of : LineReport → Option Event
 event_of (Allocation pointer size) = Some (event.Allocate pointer size 1)
 event_of (Clearing pointer size) = Some (event.Clear pointer size)
 event_of (Reallocation old new size) = Some (event.Reallocate old new size)
@@ -36,14 +36,14 @@ joined_entry None new size = entry_with None (Err Syntax)
 
 -- The entry of a report, if the first half of a reallocation is pending, or if none is. A further first
 -- half is refused, and is pending from then on.
-abbrev pub reported_entry : (pending : Option ℕ) → Report → Entry
+abbrev pub reported_entry : (pending : Option ℕ) → LineReport → Entry
 reported_entry pending Failure = record { event = Ok None; pending = pending; is_failure = true }
 reported_entry pending (From pointer) = entry_with (Some pointer) (if is_some pending then Err Syntax else Ok None)
 reported_entry pending (To pointer size) = joined_entry pending pointer size
 reported_entry pending report = entry_with pending (Ok (event_of report))
 
 -- The entry of a report, or the refusal of a line.
-abbrev pub entry_from : (pending : Option ℕ) → Result Report Refusal → Entry
+abbrev pub entry_from : (pending : Option ℕ) → Result LineReport Refusal → Entry
 entry_from pending (Ok report) = reported_entry pending report
 entry_from pending (Err refusal) = entry_with pending (Err refusal)
 

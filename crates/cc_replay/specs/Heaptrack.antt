@@ -4,8 +4,8 @@ use Rattle.std.specs.List.{after_first, before_first}
 use Rattle.cc_word.specs.declared.refusal.Refusal.{Refusal}
 use Rattle.cc_word.specs.declared.refusal.Refusal.TheVariants.{Syntax}
 use Rattle.cc_values.specs.Values.{address_in, both}
-use Rattle.cc_replay.specs.declared.report.Report.{Report}
-use Rattle.cc_replay.specs.declared.report.Report.TheVariants as report
+use Rattle.cc_replay.specs.declared.report.LineReport.{LineReport}
+use Rattle.cc_replay.specs.declared.report.LineReport.TheVariants as report
 use Rattle.cc_replay.specs.Reports.{allocation, free, reported}
 
 -- A number below 2^64 in hexadecimal digits.
@@ -34,7 +34,7 @@ abbrev pub heaptrack_object : (values : List ℕ) → Result (ℕ × ℕ) Refusa
 heaptrack_object values = both (hexadecimal_in (head_of values)) (heaptrack_place (tail_of values))
 
 -- The report of the values after a sign: `+ SIZE TRACE PTR`, `- PTR`, or `c TIME`.
-abbrev pub values_in : (sign : ℕ) → (values : List ℕ) → Result Report Refusal
+abbrev pub values_in : (sign : ℕ) → (values : List ℕ) → Result LineReport Refusal
 values_in sign values =
     if sign == 43 then reported (λ object. allocation object.1 object.0) (heaptrack_object values)
     else if sign == 45 then reported free (hexadecimal_in values)
@@ -42,7 +42,7 @@ values_in sign values =
     else Err Syntax
 
 -- The report of a sign, a space and values.
-abbrev pub told_in : (sign : ℕ) → (rest : List ℕ) → Result Report Refusal
+abbrev pub told_in : (sign : ℕ) → (rest : List ℕ) → Result LineReport Refusal
 told_in sign [] = Err Syntax
 told_in sign (space ∷ values) = if space == 32 then values_in sign values else Err Syntax
 
@@ -53,7 +53,7 @@ is_told sign = sign == 43 || sign == 45 || sign == 99 || sign == 97 || sign == 1
 
 -- The report of a line, or its error. A line that begins with another byte reports nothing. A line of more
 -- than 128 bytes that reports something is not one of the format.
-unfoldable pub heaptrack_in : (line : List ℕ) → Result Report Refusal
+unfoldable pub heaptrack_in : (line : List ℕ) → Result LineReport Refusal
 heaptrack_in [] = Ok report.Nothing
 heaptrack_in (sign ∷ rest) =
     if not (is_told sign) then Ok report.Nothing

@@ -5,8 +5,8 @@ use Rattle.std.specs.Str.{bytes_eq}
 use Rattle.cc_word.specs.declared.refusal.Refusal.{Refusal}
 use Rattle.cc_word.specs.declared.refusal.Refusal.TheVariants.{OutOfRange, Syntax}
 use Rattle.cc_values.specs.Values.{address_in, both}
-use Rattle.cc_replay.specs.declared.report.Report.{Report}
-use Rattle.cc_replay.specs.declared.report.Report.TheVariants as report
+use Rattle.cc_replay.specs.declared.report.LineReport.{LineReport}
+use Rattle.cc_replay.specs.declared.report.LineReport.TheVariants as report
 use Rattle.cc_replay.specs.Reports.{allocation, clearing, free, reallocation, reported}
 
 -- A pointer: a number below 2^64, or `nil`.
@@ -70,29 +70,29 @@ abbrev pub resized_in : (arguments : List ℕ) → Result (ℕ × ℕ) Refusal
 resized_in arguments = both (address_or_nil (first_of arguments)) (spaced_number (further_of arguments))
 
 -- The report of a call `malloc(SIZE) = PTR`.
-abbrev pub malloc_in : (call : List ℕ) → Result Report Refusal
+abbrev pub malloc_in : (call : List ℕ) → Result LineReport Refusal
 malloc_in call = reported (λ all. allocation all.1 all.0) (both (address_in (arguments_of call)) (result_in call))
 
 -- The report of a call `calloc(NUMBER, SIZE) = PTR`.
-abbrev pub calloc_in : (call : List ℕ) → Result Report Refusal
+abbrev pub calloc_in : (call : List ℕ) → Result LineReport Refusal
 calloc_in call =
     reported (λ all. clearing all.1 all.0) (both (product_in (arguments_of call)) (result_in call))
 
 -- The report of the old pointer and the size, and the new pointer.
-abbrev pub reallocated : Result ((ℕ × ℕ) × ℕ) Refusal → Result Report Refusal
+abbrev pub reallocated : Result ((ℕ × ℕ) × ℕ) Refusal → Result LineReport Refusal
 reallocated (Ok values) = Ok (reallocation values.0.0 values.1 values.0.1)
 reallocated (Err refusal) = Err refusal
 
 -- The report of a call `realloc(OLD, SIZE) = PTR`.
-abbrev pub realloc_in : (call : List ℕ) → Result Report Refusal
+abbrev pub realloc_in : (call : List ℕ) → Result LineReport Refusal
 realloc_in call = reallocated (both (resized_in (arguments_of call)) (result_in call))
 
 -- The report of a call `free(PTR)`. A call without `)` is not one.
-abbrev pub free_in : (call : List ℕ) → Result Report Refusal
+abbrev pub free_in : (call : List ℕ) → Result LineReport Refusal
 free_in call = if has_byte 41 call then reported free (address_or_nil (arguments_of call)) else Err Syntax
 
 -- The report of a function's name, and of what follows the first `(`. Other functions report nothing.
-abbrev pub called_in : (name call : List ℕ) → Result Report Refusal
+abbrev pub called_in : (name call : List ℕ) → Result LineReport Refusal
 called_in name call =
     if bytes_eq name (codes "malloc") then malloc_in call
     else if bytes_eq name (codes "calloc") then calloc_in call
@@ -101,7 +101,7 @@ called_in name call =
     else Ok report.Nothing
 
 -- The report of a line, or its error. A line of more than 128 bytes is not one of the format.
-unfoldable pub ltrace_in : (line : List ℕ) → Result Report Refusal
+unfoldable pub ltrace_in : (line : List ℕ) → Result LineReport Refusal
 ltrace_in line =
     if nat_lt 128 (length line) then Err Syntax
     else called_in (ltrace_name (before_first (λ byte. byte == 40) line)) (after_first (λ byte. byte == 40) line)

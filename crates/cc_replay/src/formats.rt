@@ -14,7 +14,7 @@ ghost use Rattle.cc_replay.specs.Formats.{
 use crate::heaptrack::read_heaptrack;
 use crate::ltrace::read_ltrace;
 use crate::mtrace::read_mtrace;
-use crate::report::Report;
+use crate::report::LineReport;
 use crate::trace::read_event;
 use cc_placer::Event;
 use cc_word::Refusal;
@@ -78,7 +78,7 @@ pub fn read_entry(format: TraceFormat, pending: Option<u64>, line: &[u8]) -> Ent
 }
 
 /// Returns the entry of a report, or of the refusal of a line.
-fn entry_from(pending: Option<u64>, found: Result<Report, Refusal>) -> Entry
+fn entry_from(pending: Option<u64>, found: Result<LineReport, Refusal>) -> Entry
     ensures value { result ≡ entry_from pending found }
     ensures aligned { IfOk result.event (λ event. IfSome event HasAlignment) }
 {
@@ -89,21 +89,21 @@ fn entry_from(pending: Option<u64>, found: Result<Report, Refusal>) -> Entry
 }
 
 /// Returns the entry of a report.
-fn reported_entry(pending: Option<u64>, report: Report) -> Entry
+fn reported_entry(pending: Option<u64>, report: LineReport) -> Entry
     ensures value { result ≡ reported_entry pending report }
     ensures aligned { IfOk result.event (λ event. IfSome event HasAlignment) }
 {
     match report {
-        Report::Failure => Entry {
+        LineReport::Failure => Entry {
             event: Ok(None),
             pending,
             is_failure: true,
         },
-        Report::From { pointer } => match pending {
+        LineReport::From { pointer } => match pending {
             Some(_) => entry_with(Some(pointer), Err(Refusal::Syntax)),
             None => entry_with(Some(pointer), Ok(None)),
         },
-        Report::To { pointer, size } => joined_entry(pending, pointer, size),
+        LineReport::To { pointer, size } => joined_entry(pending, pointer, size),
         _ => entry_with(pending, Ok(event_of(report))),
     }
 }
@@ -121,21 +121,24 @@ fn joined_entry(pending: Option<u64>, new: u64, size: u64) -> Entry
 
 /// Returns the event of a report that is one alone.
 #[tactic(auto, using(crate::proofs::PowerLemmas::one_is_a_power))]
-fn event_of(report: Report) -> Option<Event>
+fn event_of(report: LineReport) -> Option<Event>
     ensures value { result ≡ event_of report }
     ensures aligned { IfSome result HasAlignment }
 {
     match report {
-        Report::Allocation { pointer, size } => Some(Event::Allocate {
+        LineReport::Allocation { pointer, size } => Some(Event::Allocate {
             id: pointer,
             size,
             align: 1,
         }),
-        Report::Clearing { pointer, size } => Some(Event::Clear { id: pointer, size }),
-        Report::Reallocation { old, new, size } => Some(Event::Reallocate { old, new, size }),
-        Report::Free { pointer } => Some(Event::Free { id: pointer }),
-        Report::Clock(now) => Some(Event::Clock(now)),
-        Report::Nothing | Report::Failure | Report::From { .. } | Report::To { .. } => None,
+        LineReport::Clearing { pointer, size } => Some(Event::Clear { id: pointer, size }),
+        LineReport::Reallocation { old, new, size } => Some(Event::Reallocate { old, new, size }),
+        LineReport::Free { pointer } => Some(Event::Free { id: pointer }),
+        LineReport::Clock(now) => Some(Event::Clock(now)),
+        LineReport::Nothing
+        | LineReport::Failure
+        | LineReport::From { .. }
+        | LineReport::To { .. } => None,
     }
 }
 

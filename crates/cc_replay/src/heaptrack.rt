@@ -12,7 +12,7 @@ ghost use Rattle.cc_replay.specs.Heaptrack.{
 };
 
 use crate::cutting::cut;
-use crate::report::{Report, allocation, free};
+use crate::report::{LineReport, allocation, free};
 use cc_io::Line;
 use cc_values::{both, read_address};
 use cc_word::Refusal;
@@ -28,13 +28,13 @@ const MOST_BYTES: usize = 128;
 /// more than 128 bytes, or if it begins with `a`, `i` or `s`, as lines of an interpreted file do;
 /// `OutOfRange` if a number is above 2^64 - 1.
 #[tactic(auto, using(crate::proofs::StartLemmas::heaptrack_start), unfolding(crate::specs::Heaptrack::heaptrack_in))]
-pub fn read_heaptrack(line: &[u8]) -> Result<Report, Refusal>
+pub fn read_heaptrack(line: &[u8]) -> Result<LineReport, Refusal>
     ensures value { result ≡ heaptrack_in line.now }
     ensures start { heaptrack_in (take 129 line.now) ≡ heaptrack_in line.now }
 {
     match line {
-        [] => Ok(Report::Nothing),
-        [sign, ..] if !is_told(*sign) => Ok(Report::Nothing),
+        [] => Ok(LineReport::Nothing),
+        [sign, ..] if !is_told(*sign) => Ok(LineReport::Nothing),
         _ if line.len() > MOST_BYTES => Err(Refusal::Syntax),
         [sign, rest @ ..] => read_told(*sign, rest),
     }
@@ -49,7 +49,7 @@ fn is_told(sign: u8) -> bool
 }
 
 /// Parses the rest of a line after its first byte.
-fn read_told(sign: u8, rest: &[u8]) -> Result<Report, Refusal>
+fn read_told(sign: u8, rest: &[u8]) -> Result<LineReport, Refusal>
     requires { length rest.now ≤ 128 }
     ensures { result ≡ told_in sign rest.now }
 {
@@ -60,7 +60,7 @@ fn read_told(sign: u8, rest: &[u8]) -> Result<Report, Refusal>
 }
 
 /// Parses the values of a line that begins with this byte.
-fn read_values(sign: u8, values: &[u8]) -> Result<Report, Refusal>
+fn read_values(sign: u8, values: &[u8]) -> Result<LineReport, Refusal>
     requires { length values.now ≤ 128 }
     ensures { result ≡ values_in sign values.now }
 {
@@ -69,7 +69,7 @@ fn read_values(sign: u8, values: &[u8]) -> Result<Report, Refusal>
     } else if sign == b'-' {
         read_hexadecimal(values).map(free)
     } else if sign == b'c' {
-        read_hexadecimal(values).map(Report::Clock)
+        read_hexadecimal(values).map(LineReport::Clock)
     } else {
         Err(Refusal::Syntax)
     }

@@ -38,7 +38,7 @@ pub use mtrace::read_mtrace;
 pub use policy_text::{push_policy, read_policy};
 pub use reading::{Progress, Reading, SampleReason};
 pub use replay::{Replay, replay_trace};
-pub use report::Report;
+pub use report::LineReport;
 pub use script::{Script, script_trace};
 pub use series::{MOST_SAMPLE, push_sample, push_series_header};
 pub use size_table::write_sizes;

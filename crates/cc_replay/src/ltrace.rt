@@ -20,7 +20,7 @@ ghost use Rattle.cc_replay.specs.Ltrace.{
 };
 
 use crate::cutting::{after_or_all, cut, has_byte};
-use crate::report::{Report, allocation, clearing, free, reallocation};
+use crate::report::{LineReport, allocation, clearing, free, reallocation};
 use cc_values::{both, read_address};
 use cc_word::Refusal;
 
@@ -36,7 +36,7 @@ const MOST_BYTES: usize = 128;
 /// interrupts, or if it has more than 128 bytes; `OutOfRange` if a number or the product of `calloc` is
 /// above 2^64 - 1.
 #[tactic(auto, using(crate::proofs::StartLemmas::ltrace_start), unfolding(crate::specs::Ltrace::ltrace_in))]
-pub fn read_ltrace(line: &[u8]) -> Result<Report, Refusal>
+pub fn read_ltrace(line: &[u8]) -> Result<LineReport, Refusal>
     ensures value { result ≡ ltrace_in line.now }
     ensures start { ltrace_in (take 129 line.now) ≡ ltrace_in line.now }
 {
@@ -55,7 +55,7 @@ fn name_of(head: &[u8]) -> &[u8]
 }
 
 /// Parses a call of the function of this name.
-fn read_call(name: &[u8], call: &[u8]) -> Result<Report, Refusal>
+fn read_call(name: &[u8], call: &[u8]) -> Result<LineReport, Refusal>
     ensures { result ≡ called_in name.now call.now }
 {
     if name == b"malloc".as_slice() {
@@ -67,12 +67,12 @@ fn read_call(name: &[u8], call: &[u8]) -> Result<Report, Refusal>
     } else if name == b"free".as_slice() {
         read_free(call)
     } else {
-        Ok(Report::Nothing)
+        Ok(LineReport::Nothing)
     }
 }
 
 /// Parses `SIZE) = PTR`.
-fn read_malloc(call: &[u8]) -> Result<Report, Refusal>
+fn read_malloc(call: &[u8]) -> Result<LineReport, Refusal>
     ensures { result ≡ malloc_in call.now }
 {
     let (arguments, _) = cut(call, b')');
@@ -82,7 +82,7 @@ fn read_malloc(call: &[u8]) -> Result<Report, Refusal>
 }
 
 /// Parses `NUMBER, SIZE) = PTR`.
-fn read_calloc(call: &[u8]) -> Result<Report, Refusal>
+fn read_calloc(call: &[u8]) -> Result<LineReport, Refusal>
     ensures { result ≡ calloc_in call.now }
 {
     let (arguments, _) = cut(call, b')');
@@ -90,7 +90,7 @@ fn read_calloc(call: &[u8]) -> Result<Report, Refusal>
 }
 
 /// Parses `OLD, SIZE) = PTR`.
-fn read_realloc(call: &[u8]) -> Result<Report, Refusal>
+fn read_realloc(call: &[u8]) -> Result<LineReport, Refusal>
     ensures { result ≡ realloc_in call.now }
 {
     let (arguments, _) = cut(call, b')');
@@ -98,7 +98,7 @@ fn read_realloc(call: &[u8]) -> Result<Report, Refusal>
 }
 
 /// Returns the report of the old pointer and the size, and the new pointer.
-fn reallocated(values: Result<((u64, u64), u64), Refusal>) -> Result<Report, Refusal>
+fn reallocated(values: Result<((u64, u64), u64), Refusal>) -> Result<LineReport, Refusal>
     ensures { result ≡ reallocated values }
 {
     match values {
@@ -108,7 +108,7 @@ fn reallocated(values: Result<((u64, u64), u64), Refusal>) -> Result<Report, Ref
 }
 
 /// Parses `PTR)`.
-fn read_free(call: &[u8]) -> Result<Report, Refusal>
+fn read_free(call: &[u8]) -> Result<LineReport, Refusal>
     ensures { result ≡ free_in call.now }
 {
     if !has_byte(call, b')') {

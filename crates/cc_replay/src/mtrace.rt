@@ -4,7 +4,7 @@ ghost use Rattle.cc_replay.specs.Mtrace.{after_caller, called_in, mtrace_in, mtr
 ghost use Rattle.cc_replay.specs.Reports.{object_in, pointer_in};
 
 use crate::cutting::cut;
-use crate::report::{Report, allocation, free};
+use crate::report::{LineReport, allocation, free};
 use cc_values::{both, read_address};
 use cc_word::Refusal;
 
@@ -18,12 +18,12 @@ const MOST_BYTES: usize = 128;
 /// Errors, in order: `Syntax` if the line has another shape than those of `mtrace`, or more than 128
 /// bytes; `OutOfRange` if a number is above 2^64 - 1.
 #[tactic(auto, using(crate::proofs::StartLemmas::mtrace_start), unfolding(crate::specs::Mtrace::mtrace_in))]
-pub fn read_mtrace(line: &[u8]) -> Result<Report, Refusal>
+pub fn read_mtrace(line: &[u8]) -> Result<LineReport, Refusal>
     ensures value { result ≡ mtrace_in line.now }
     ensures start { mtrace_in (take 129 line.now) ≡ mtrace_in line.now }
 {
     match line {
-        [] | [b'=', ..] => Ok(Report::Nothing),
+        [] | [b'=', ..] => Ok(LineReport::Nothing),
         _ if line.len() > MOST_BYTES => Err(Refusal::Syntax),
         [b'@', caller @ ..] => read_called(caller),
         _ => read_operation(line),
@@ -31,7 +31,7 @@ pub fn read_mtrace(line: &[u8]) -> Result<Report, Refusal>
 }
 
 /// Parses a space, a caller and an operation.
-fn read_called(text: &[u8]) -> Result<Report, Refusal>
+fn read_called(text: &[u8]) -> Result<LineReport, Refusal>
     ensures { result ≡ called_in text.now }
 {
     match text {
@@ -41,7 +41,7 @@ fn read_called(text: &[u8]) -> Result<Report, Refusal>
 }
 
 /// Parses a caller and an operation.
-fn read_after_caller(text: &[u8]) -> Result<Report, Refusal>
+fn read_after_caller(text: &[u8]) -> Result<LineReport, Refusal>
     ensures { result ≡ after_caller text.now }
 {
     let (_, rest) = cut(text, b']');
@@ -49,7 +49,7 @@ fn read_after_caller(text: &[u8]) -> Result<Report, Refusal>
 }
 
 /// Parses a space and an operation.
-fn read_spaced(text: &[u8]) -> Result<Report, Refusal>
+fn read_spaced(text: &[u8]) -> Result<LineReport, Refusal>
     ensures { result ≡ spaced_in text.now }
 {
     match text {
@@ -59,7 +59,7 @@ fn read_spaced(text: &[u8]) -> Result<Report, Refusal>
 }
 
 /// Parses an operation.
-fn read_operation(text: &[u8]) -> Result<Report, Refusal>
+fn read_operation(text: &[u8]) -> Result<LineReport, Refusal>
     ensures { result ≡ mtrace_operation text.now }
 {
     match text {
@@ -67,11 +67,13 @@ fn read_operation(text: &[u8]) -> Result<Report, Refusal>
             read_object(values).map(|(pointer, size)| allocation(pointer, size))
         }
         [b'-', b' ', values @ ..] => read_pointer(values).map(free),
-        [b'<', b' ', values @ ..] => read_pointer(values).map(|pointer| Report::From { pointer }),
+        [b'<', b' ', values @ ..] => read_pointer(values).map(|pointer| LineReport::From {
+            pointer,
+        }),
         [b'>', b' ', values @ ..] => {
-            read_object(values).map(|(pointer, size)| Report::To { pointer, size })
+            read_object(values).map(|(pointer, size)| LineReport::To { pointer, size })
         }
-        [b'!', b' ', values @ ..] => read_object(values).map(|_| Report::Failure),
+        [b'!', b' ', values @ ..] => read_object(values).map(|_| LineReport::Failure),
         _ => Err(Refusal::Syntax),
     }
 }

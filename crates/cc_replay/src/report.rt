@@ -7,7 +7,7 @@ ghost use Rattle.cc_replay.specs.Reports.{allocation, clearing, free, reallocati
 /// An object is named by its pointer. It is not 0 in the reports of the readers, except in `From` and
 /// `To`.
 #[derive(Clone, Copy)]
-pub enum Report {
+pub enum LineReport {
     /// The line reports no change.
     Nothing,
     /// An object could not be made.
@@ -57,51 +57,51 @@ pub enum Report {
 }
 
 /// Returns the report of an object that is made at a pointer: a failure if the pointer is 0.
-pub(crate) fn allocation(pointer: u64, size: u64) -> Report
+pub(crate) fn allocation(pointer: u64, size: u64) -> LineReport
     ensures { result ≡ allocation pointer size }
 {
     if pointer == 0 {
-        Report::Failure
+        LineReport::Failure
     } else {
-        Report::Allocation { pointer, size }
+        LineReport::Allocation { pointer, size }
     }
 }
 
 /// Returns the report of an object that is made and cleared: a failure if the pointer is 0.
-pub(crate) fn clearing(pointer: u64, size: u64) -> Report
+pub(crate) fn clearing(pointer: u64, size: u64) -> LineReport
     ensures { result ≡ clearing pointer size }
 {
     if pointer == 0 {
-        Report::Failure
+        LineReport::Failure
     } else {
-        Report::Clearing { pointer, size }
+        LineReport::Clearing { pointer, size }
     }
 }
 
 /// Returns the report of `realloc`, for which a pointer of 0 names nothing.
-pub(crate) fn reallocation(old: u64, new: u64, size: u64) -> Report
+pub(crate) fn reallocation(old: u64, new: u64, size: u64) -> LineReport
     ensures { result ≡ reallocation old new size }
 {
     if new == 0 {
         if size == 0 && old != 0 {
-            Report::Free { pointer: old }
+            LineReport::Free { pointer: old }
         } else {
-            Report::Failure
+            LineReport::Failure
         }
     } else if old == 0 {
-        Report::Allocation { pointer: new, size }
+        LineReport::Allocation { pointer: new, size }
     } else {
-        Report::Reallocation { old, new, size }
+        LineReport::Reallocation { old, new, size }
     }
 }
 
 /// Returns the report of a free of a pointer: nothing if the pointer is 0.
-pub(crate) fn free(pointer: u64) -> Report
+pub(crate) fn free(pointer: u64) -> LineReport
     ensures { result ≡ free pointer }
 {
     if pointer == 0 {
-        Report::Nothing
+        LineReport::Nothing
     } else {
-        Report::Free { pointer }
+        LineReport::Free { pointer }
     }
 }
