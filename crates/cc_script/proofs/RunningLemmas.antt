@@ -28,8 +28,8 @@ use Rattle.cc_script.specs.Main.{IoState, IsBetween, WritesScriptOutput}
 use Rattle.cc_script.specs.Failures.{WritesAllReplies, StopsInReplies, StopsAfterLines, BeginsScriptOutput, WritesPart, RunsScript}
 use Rattle.cc_script.proofs.RunLemmas.{between_safe}
 use Rattle.cc_machine.specs.Run.{IsReached}
-use Rattle.cc_script.specs.Lending.{AnswersLine, RefusesScriptRest}
-use Rattle.cc_script.specs.declared.lent.Lent.{Lent}
+use Rattle.cc_script.specs.Session.{AnswersLine, RefusesScriptRest}
+use Rattle.cc_script.specs.declared.session.Session.{Session}
 use Rattle.cc_script.specs.Running.{Opens}
 use Rattle.cc_syntax.specs.declared.tally.Tally.{Tally}
 use Rattle.cc_io.specs.Devices.{TakesPrefix}
@@ -62,8 +62,8 @@ commands_seen (line ∷ entries) =
 
 -- ---- the replies of the borrowed machine
 
-abbrev pub machine : Lent → State
-machine lent = lent.machine.now
+abbrev pub machine : Session → State
+machine session = session.machine.now
 
 -- Opened holds if the setup operations got their replies, of which a part is written, and the
 -- others are pending.
@@ -140,7 +140,7 @@ record RestIs (mid : State) (rest : List ℕ) (ending : Answer) (new : State) : 
   pub error_is : ending.is_error ≡ not (length rest == 0)
   pub stays : new ≡ mid
 
-pub replies_all : (a b : Lent) (entries : List (List ℕ)) (answers : List Answer) → AnswersAll AnswersLine a entries answers b → RepliesAll (machine a) entries answers (machine b)
+pub replies_all : (a b : Session) (entries : List (List ℕ)) (answers : List Answer) → AnswersAll AnswersLine a entries answers b → RepliesAll (machine a) entries answers (machine b)
 replies_all a b [] [] t = record { replies = []; takes = ap machine t; text_is = refl; error_is = refl }
 replies_all a b (entry ∷ entries) (answer ∷ answers) t =
     let l = t.1 in
@@ -157,7 +157,7 @@ replies_all a b [] (answer ∷ answers) t = absurd t
 replies_all a b (entry ∷ entries) [] t = absurd t
 
 -- The replies to the lines of a text.
-lines_all : (a b : Lent) (text : List ℕ) (answers : List Answer) → AnswersAll AnswersLine a (seen (lines_of text)) answers b → RepliesAll (machine a) (lines_of text) answers (machine b)
+lines_all : (a b : Session) (text : List ℕ) (answers : List Answer) → AnswersAll AnswersLine a (seen (lines_of text)) answers b → RepliesAll (machine a) (lines_of text) answers (machine b)
 lines_all a b text answers t =
     let p = replies_all a b (seen (lines_of text)) answers t in
     record {
@@ -167,14 +167,14 @@ lines_all a b text answers t =
       error_is = p.error_is;
     }
 
-rest_is : (mid : Lent) (rest : List ℕ) (ending : Answer) (new : Lent) → EndsWith RefusesScriptRest mid (take 129 rest) ending new → RestIs (machine mid) rest ending (machine new)
+rest_is : (mid : Session) (rest : List ℕ) (ending : Answer) (new : Session) → EndsWith RefusesScriptRest mid (take 129 rest) ending new → RestIs (machine mid) rest ending (machine new)
 rest_is mid [] ending new e = record { text_is = e.0; error_is = e.1; stays = ap machine e.2 }
 rest_is mid (byte ∷ rest) ending new e =
     record { text_is = e.text_is; error_is = e.error_is ∙ sym (ap not (eqb-suc-zero (length rest))); stays = e.stays }
 
 -- ---- the bytes written
 
-ok_part : (start : State) (opening : List Op) (a b : Lent) (pending text : List ℕ) (c left s t u : Option (List ℕ)) (e error : Bool)
+ok_part : (start : State) (opening : List Op) (a b : Session) (pending text : List ℕ) (c left s t u : Option (List ℕ)) (e error : Bool)
     → Opened start opening pending s t e (machine a) → IsAtEnd left → PumpsOutput AnswersLine RefusesScriptRest lines a pending text t u error b
     → WritesScriptOutput opening text (io start c s) (e || error) (io (machine b) left u)
 ok_part start opening a b pending text c left s t u e error o at_end w =
@@ -205,7 +205,7 @@ ok_part start opening a b pending text c left s t u e error o at_end w =
     }
 
 -- The bytes of the setup operations and of all that comes after them.
-written_after : (start : State) (opening : List Op) (a : Lent) (pending : List ℕ) (s t u : Option (List ℕ)) (e : Bool) (o : Opened start opening pending s t e (machine a))
+written_after : (start : State) (opening : List Op) (a : Session) (pending : List ℕ) (s t u : Option (List ℕ)) (e : Bool) (o : Opened start opening pending s t e (machine a))
     (replies : List Reply) (answers more more_text : List ℕ) → answers ≡ replies_text replies → more ≡ more_text
     → Appends t u (pending ++ answers ++ more) → Appends s u (replies_text (o.replies ++ replies) ++ more_text)
 written_after start opening a pending s t u e o replies answers more more_text is more_is w =
@@ -216,7 +216,7 @@ written_after start opening a pending s t u e o replies answers more more_text i
     ∙ ap (λ (l : List ℕ). l ++ more_text) (sym (replies_text-append o.replies replies)) in
     subst (λ (l : List ℕ). Appends s u l) whole (appends_twice s t u o.done (pending ++ answers ++ more) o.written w)
 
-read_part : (start : State) (opening : List Op) (a b : Lent) (pending text : List ℕ) (s t u : Option (List ℕ)) (e : Bool)
+read_part : (start : State) (opening : List Op) (a b : Session) (pending text : List ℕ) (s t u : Option (List ℕ)) (e : Bool)
     → Opened start opening pending s t e (machine a) → WritesAnswers AnswersLine a pending (seen (lines_of text)) t u b
     → WritesAllReplies start opening text (Appends s u) (machine b)
 read_part start opening a b pending text s t u e o w =
@@ -229,7 +229,7 @@ read_part start opening a b pending text s t u e o w =
           (written_after start opening a pending s t u e o p.replies (answers_text w.answers) [] [] p.text_is refl (subst (λ (l : List ℕ). Appends t u l) whole w.written));
     }
 
-after_part : (start : State) (opening : List Op) (a b : Lent) (pending text : List ℕ) (s t u : Option (List ℕ)) (e : Bool)
+after_part : (start : State) (opening : List Op) (a b : Session) (pending text : List ℕ) (s t u : Option (List ℕ)) (e : Bool)
     → Opened start opening pending s t e (machine a) → StopsAfterAnswers AnswersLine RefusesScriptRest lines a pending text t u b
     → StopsAfterLines start opening text (Appends s u) (machine b)
 after_part start opening a b pending text s t u e o q =
@@ -263,7 +263,7 @@ record OnPage (old : State) (entries : List (List ℕ)) (front answers : List An
   pub text_is : answers_text answers ≡ replies_text (first ++ last ∷ [])
   pub fits : length (with_line_feed (reply_text last)) ≤ 193
 
-on_page : (a b : Lent) (entries : List (List ℕ)) (first : List Answer) (last : Answer) → AnswersAll AnswersLine a entries (first ++ last ∷ []) b
+on_page : (a b : Session) (entries : List (List ℕ)) (first : List Answer) (last : Answer) → AnswersAll AnswersLine a entries (first ++ last ∷ []) b
     → OnPage (machine a) entries first (first ++ last ∷ []) (machine b)
 on_page a b [] [] last t = absurd t
 on_page a b [] (x ∷ first) last t = absurd t
@@ -292,7 +292,7 @@ on_page a b (entry ∷ entries) (x ∷ first) last t =
       fits = p.fits;
     }
 
-page_part : (room : ℕ) (start : State) (opening : List Op) (a b : Lent) (pending text : List ℕ) (s t u : Option (List ℕ)) (e : Bool)
+page_part : (room : ℕ) (start : State) (opening : List Op) (a b : Session) (pending text : List ℕ) (s t u : Option (List ℕ)) (e : Bool)
     → Opened start opening pending s t e (machine a) → StopsOnPage AnswersLine room 193 a pending (seen (lines_of text)) t u b
     → StopsInReplies room start (commands_of opening text) (Appends s u) (machine b)
 page_part room start opening a b pending text s t u e o q =
@@ -433,7 +433,7 @@ stops_in_opening room before after opening reached same p =
 
 -- ---- the theorem of a script's run
 
-pub whole_part : (room : ℕ) (start : State) (tally counts : Tally) (opening : List Op) (a b : Lent) (pending given : List ℕ) (c left s t u : Option (List ℕ)) (e : Bool)
+pub whole_part : (room : ℕ) (start : State) (tally counts : Tally) (opening : List Op) (a b : Session) (pending given : List ℕ) (c left s t u : Option (List ℕ)) (e : Bool)
     (result : Result Summary IoError)
     → Opens room start tally opening pending s t e (machine a) counts → PumpsText AnswersLine RefusesScriptRest lines room 193 a pending given left t u result b
     → IfOk (joined e result) (λ (summary : Summary). WritesScriptOutput opening given (io start c s) summary.any_error (io (machine b) left u))
@@ -441,7 +441,8 @@ whole_part room start tally counts opening a b pending given c left s t u e (Ok 
     ok_part start opening a b pending given c left s t u e summary.any_error (all_opened room start tally opening pending s t e (machine a) counts o) p.0 p.1
 whole_part room start tally counts opening a b pending given c left s t u e (Err error) o p = tt
 
-pub some_part : (room : ℕ) (start : State) (tally counts : Tally) (opening : List Op) (a b : Lent) (pending given : List ℕ) (left s t u : Option (List ℕ)) (e : Bool) (result : Result Summary IoError)
+pub some_part : (room : ℕ) (start : State) (tally counts : Tally) (opening : List Op) (a b : Session) (pending given : List ℕ) (left s t u : Option (List ℕ)) (e : Bool)
+    (result : Result Summary IoError)
     → Opens room start tally opening pending s t e (machine a) counts → PumpsText AnswersLine RefusesScriptRest lines room 193 a pending given left t u result b
     → IfErr (joined e result) (λ (error : IoError). WritesPart (StopsInReplies room) start opening given (rest_left left) (Appends s u) error (machine b))
 some_part room start tally counts opening a b pending given left s t u e (Ok summary) o p = tt
@@ -450,7 +451,7 @@ some_part room start tally counts opening a b pending given left s t u e (Err Re
 some_part room start tally counts opening a b pending given left s t u e (Err Write) o (inl p) =
     let q = stops_waiting room start tally opening pending s t u e (machine a) counts (map operation_of (lines_of given)) o p.1.some p.1.written in
     let here : StopsInReplies room start (commands_of opening given) (Appends s u) (machine b) =
-    subst (λ (x : Lent). StopsInReplies room start (commands_of opening given) (Appends s u) (machine x)) (sym p.1.stays) q in
+    subst (λ (x : Session). StopsInReplies room start (commands_of opening given) (Appends s u) (machine x)) (sym p.1.stays) q in
     (inl here, begins_on_page room start (machine b) s u opening given (rest_left left) here)
 some_part room start tally counts opening a b pending given left s t u e (Err Write) o (inr (inl p)) =
     let q = page_part room start opening a b pending given s t u e (all_opened room start tally opening pending s t e (machine a) counts o) p in
@@ -461,13 +462,13 @@ some_part room start tally counts opening a b pending given left s t u e (Err Wr
     (inr (none, q), begins_after start (machine b) s u opening given (rest_left left) none q)
 
 -- The setup operations got their replies, of which some are on the page, and then the lines.
-unfoldable pub pumps_script : (room : ℕ) (start : State) (tally counts : Tally) (opening : List Op) (a b : Lent) (pending : List ℕ) (c left s t u : Option (List ℕ)) (e : Bool)
+unfoldable pub pumps_script : (room : ℕ) (start : State) (tally counts : Tally) (opening : List Op) (a b : Session) (pending : List ℕ) (c left s t u : Option (List ℕ)) (e : Bool)
     (result : Result Summary IoError)
-    → IsReached start → Opens room start tally opening pending s t e (machine a) counts → Pumps (λ (state : Lent). false) AnswersLine RefusesScriptRest lines room 193 a pending c left t u result b
+    → IsReached start → Opens room start tally opening pending s t e (machine a) counts → Pumps (λ (state : Session). false) AnswersLine RefusesScriptRest lines room 193 a pending c left t u result b
     → RunsScript (StopsInReplies room) opening (io start c s) (joined e result) (io (machine b) left u)
 unfolding runs_script
 pumps_script room start tally counts opening a b pending c left s t u e result reached o p =
-    let through = runs_through (λ (state : Lent). false) _ _ _ _ _ _ _ _ _ _ _ _ _ refl p in
+    let through = runs_through (λ (state : Session). false) _ _ _ _ _ _ _ _ _ _ _ _ _ refl p in
     runs_script room opening p.text (io start c s) (joined e result) (io (machine b) left u) reached p.given
     (whole_part room start tally counts opening a b pending p.text c left s t u e result o through)
     (some_part room start tally counts opening a b pending p.text left s t u e result o through)

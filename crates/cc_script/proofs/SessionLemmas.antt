@@ -26,8 +26,8 @@ use Rattle.cc_script.proofs.RunningLemmas.{all_opened, io, joined, pumps_script,
 use Rattle.cc_script.specs.Failures.{StopsInReplies}
 use Rattle.cc_script.specs.Running.{CountsRun, Opens, RunsSession, TakesOperation, exchanges_of, rest_exchange}
 use Rattle.cc_machine.specs.Run.{IsReached}
-use Rattle.cc_script.specs.Lending.{AnswersLine, RefusesScriptRest, StaysLent}
-use Rattle.cc_script.specs.declared.lent.Lent.{Lent}
+use Rattle.cc_script.specs.Session.{AnswersLine, RefusesScriptRest, HasSameMachine}
+use Rattle.cc_script.specs.declared.session.Session.{Session}
 use Rattle.cc_syntax.specs.declared.tally.Tally.{Tally}
 use Rattle.cc_io.specs.Devices.{TakesPrefix}
 use Rattle.cc_io.specs.Engine.{PassesPage}
@@ -135,18 +135,18 @@ opens_whole room old a tally counts ops i page t u e o past = subst (λ (l : Lis
 
 -- ---- the lines and the trailing bytes
 
-record Counted (a b : Lent) (opening : List Reply) (before : List Exchange) (entries : List (List ℕ)) : Type 0 where
+record Counted (a b : Session) (opening : List Reply) (before : List Exchange) (entries : List (List ℕ)) : Type 0 where
   pub replies : List Reply
   pub takes : TakesAll a.machine.now (map operation_of entries) replies b.machine.now
-  pub is_tally : IsTally opening (before ++ exchanges_of entries replies) b.tally.now
+  pub is_tally : IsTally opening (before ++ exchanges_of entries replies) b.tally
 
-counted_all : (a b : Lent) (opening : List Reply) (before : List Exchange) (entries : List (List ℕ)) (answers : List Answer)
-    → AnswersAll AnswersLine a (seen entries) answers b → IsTally opening before a.tally.now → Counted a b opening before entries
+counted_all : (a b : Session) (opening : List Reply) (before : List Exchange) (entries : List (List ℕ)) (answers : List Answer)
+    → AnswersAll AnswersLine a (seen entries) answers b → IsTally opening before a.tally → Counted a b opening before entries
 counted_all a b opening before [] [] t is = record {
   replies = [];
-  takes = ap (λ (lent : Lent). lent.machine.now) t;
-  is_tally = subst (λ (l : List Exchange). IsTally opening l b.tally.now) (sym (append-nil before))
-      (subst (λ (lent : Lent). IsTally opening before lent.tally.now) (sym t) is);
+  takes = ap (λ (session : Session). session.machine.now) t;
+  is_tally = subst (λ (l : List Exchange). IsTally opening l b.tally) (sym (append-nil before))
+      (subst (λ (session : Session). IsTally opening before session.tally) (sym t) is);
 }
 counted_all a b opening before [] (answer ∷ answers) t is = absurd t
 counted_all a b opening before (line ∷ entries) [] t is = absurd t
@@ -157,62 +157,55 @@ counted_all a b opening before (line ∷ entries) (answer ∷ answers) t is =
     record {
       replies = one.reply ∷ p.replies;
       takes = (t.0.machine.now, subst (λ (command : Result Op Refusal). Takes a.machine.now command one.reply t.0.machine.now) (start_enough line) one.takes, p.takes);
-      is_tally = subst (λ (l : List Exchange). IsTally opening l b.tally.now) (append_assoc before (exchange ∷ []) (exchanges_of entries p.replies)) p.is_tally;
+      is_tally = subst (λ (l : List Exchange). IsTally opening l b.tally) (append_assoc before (exchange ∷ []) (exchanges_of entries p.replies)) p.is_tally;
     }
 
-counted_rest : (mid b : Lent) (opening : List Reply) (before : List Exchange) (rest : List ℕ) (ending : Answer)
-    → EndsWith RefusesScriptRest mid (take 129 rest) ending b → IsTally opening before mid.tally.now
-    → (b.machine.now ≡ mid.machine.now) × IsTally opening (before ++ rest_exchange rest) b.tally.now
+counted_rest : (mid b : Session) (opening : List Reply) (before : List Exchange) (rest : List ℕ) (ending : Answer)
+    → EndsWith RefusesScriptRest mid (take 129 rest) ending b → IsTally opening before mid.tally
+    → (b.machine.now ≡ mid.machine.now) × IsTally opening (before ++ rest_exchange rest) b.tally
 counted_rest mid b opening before [] ending e is = (
-  ap (λ (lent : Lent). lent.machine.now) e.2,
-  subst (λ (l : List Exchange). IsTally opening l b.tally.now) (sym (append-nil before))
-      (subst (λ (lent : Lent). IsTally opening before lent.tally.now) (sym e.2) is),
+  ap (λ (session : Session). session.machine.now) e.2,
+  subst (λ (l : List Exchange). IsTally opening l b.tally) (sym (append-nil before))
+      (subst (λ (session : Session). IsTally opening before session.tally) (sym e.2) is),
 )
 counted_rest mid b opening before (byte ∷ rest) ending e is = (e.stays, e.counted opening before is)
 
--- ---- the same machine and tally are borrowed at the end
+-- ---- the same machine is borrowed at the end
 
-module _ {X : Type 0} (name : Lent → X)
-    (answers : (old : Lent) (line text : List ℕ) (error : Bool) (new : Lent) → AnswersLine old line text error new → name new ≡ name old)
-    (refuses : (old : Lent) (rest text : List ℕ) (error : Bool) (new : Lent) → RefusesScriptRest old rest text error new → name new ≡ name old) where
-  lent_all : (a b : Lent) (entries : List (List ℕ)) (all : List Answer) → AnswersAll AnswersLine a entries all b → name b ≡ name a
-  lent_all a b [] [] t = ap name t
-  lent_all a b (entry ∷ entries) (answer ∷ all) t = lent_all t.0 b entries all t.2 ∙ answers a entry answer.text answer.is_error t.0 t.1
-  lent_all a b [] (answer ∷ all) t = absurd t
-  lent_all a b (entry ∷ entries) [] t = absurd t
+same_all : (a b : Session) (entries : List (List ℕ)) (all : List Answer) → AnswersAll AnswersLine a entries all b → HasSameMachine a b
+same_all a b [] [] t = ap (λ (session : Session). session.machine.ghost_name) t
+same_all a b (entry ∷ entries) (answer ∷ all) t = same_all t.0 b entries all t.2 ∙ t.1.same
+same_all a b [] (answer ∷ all) t = absurd t
+same_all a b (entry ∷ entries) [] t = absurd t
 
-  lent_end : (a b : Lent) (rest : List ℕ) (ending : Answer) → EndsWith RefusesScriptRest a rest ending b → name b ≡ name a
-  lent_end a b [] ending e = ap name e.2
-  lent_end a b (byte ∷ rest) ending e = refuses a (byte ∷ rest) ending.text ending.is_error b e
+same_end : (a b : Session) (rest : List ℕ) (ending : Answer) → EndsWith RefusesScriptRest a rest ending b → HasSameMachine a b
+same_end a b [] ending e = ap (λ (session : Session). session.machine.ghost_name) e.2
+same_end a b (byte ∷ rest) ending e = e.same
 
-  lent_text : (room : ℕ) (a b : Lent) (pending text : List ℕ) (left t u : Option (List ℕ)) (result : Result Summary IoError)
-      → PumpsText AnswersLine RefusesScriptRest lines room 193 a pending text left t u result b → name b ≡ name a
-  lent_text room a b pending text left t u (Ok summary) p =
-      let out = p.1.of_text in lent_end out.mid b (take 129 (rest_of text)) out.ending out.ends ∙ lent_all a out.mid (seen (lines_of text)) out.answers out.takes
-  lent_text room a b pending text left t u (Err Read) p = lent_all a b (seen (lines_of text)) p.answers p.takes
-  lent_text room a b pending text left t u (Err Write) (inl p) = ap name p.1.stays
-  lent_text room a b pending text left t u (Err Write) (inr (inl p)) = lent_all p.mid b p.on_page p.page p.takes ∙ lent_all a p.mid p.earlier p.before p.first
-  lent_text room a b pending text left t u (Err Write) (inr (inr p)) =
-      lent_end p.1.mid b (take 129 (rest_of text)) p.1.ending p.1.ends ∙ lent_all a p.1.mid (seen (lines_of text)) p.1.answers p.1.takes
+same_text : (room : ℕ) (a b : Session) (pending text : List ℕ) (left t u : Option (List ℕ)) (result : Result Summary IoError)
+    → PumpsText AnswersLine RefusesScriptRest lines room 193 a pending text left t u result b → HasSameMachine a b
+same_text room a b pending text left t u (Ok summary) p =
+    let out = p.1.of_text in same_end out.mid b (take 129 (rest_of text)) out.ending out.ends ∙ same_all a out.mid (seen (lines_of text)) out.answers out.takes
+same_text room a b pending text left t u (Err Read) p = same_all a b (seen (lines_of text)) p.answers p.takes
+same_text room a b pending text left t u (Err Write) (inl p) = ap (λ (session : Session). session.machine.ghost_name) p.1.stays
+same_text room a b pending text left t u (Err Write) (inr (inl p)) = same_all p.mid b p.on_page p.page p.takes ∙ same_all a p.mid p.earlier p.before p.first
+same_text room a b pending text left t u (Err Write) (inr (inr p)) =
+    same_end p.1.mid b (take 129 (rest_of text)) p.1.ending p.1.ends ∙ same_all a p.1.mid (seen (lines_of text)) p.1.answers p.1.takes
 
-pub same_lent : (room : ℕ) (a b : Lent) (pending : List ℕ) (unread left t u : Option (List ℕ)) (result : Result Summary IoError)
-    → Pumps (λ (state : Lent). false) AnswersLine RefusesScriptRest lines room 193 a pending unread left t u result b → StaysLent a b
-same_lent room a b pending unread left t u result p = record {
-  machine = lent_text (λ (lent : Lent). lent.machine.ghost_name) (λ old line text error new r. r.same.machine) (λ old rest text error new r. r.same.machine)
-      room a b pending p.text left t u result (runs_through (λ (state : Lent). false) _ _ _ _ _ _ _ _ _ _ _ _ _ refl p);
-  tally = lent_text (λ (lent : Lent). lent.tally.ghost_name) (λ old line text error new r. r.same.tally) (λ old rest text error new r. r.same.tally)
-      room a b pending p.text left t u result (runs_through (λ (state : Lent). false) _ _ _ _ _ _ _ _ _ _ _ _ _ refl p);
-}
+pub same_machine : (room : ℕ) (a b : Session) (pending : List ℕ) (unread left t u : Option (List ℕ)) (result : Result Summary IoError)
+    → Pumps (λ (state : Session). false) AnswersLine RefusesScriptRest lines room 193 a pending unread left t u result b → HasSameMachine a b
+same_machine room a b pending unread left t u result p =
+    same_text room a b pending p.text left t u result (runs_through (λ (state : Session). false) _ _ _ _ _ _ _ _ _ _ _ _ _ refl p)
 
 -- ---- the run
 
-counts_run : (room : ℕ) (old : State) (tally : Tally) (a b : Lent) (opening : List Op) (pending text : List ℕ) (left s t u : Option (List ℕ)) (e : Bool) (result : Result Summary IoError)
-    → IsTally [] [] tally → Opens room old tally opening pending s t e a.machine.now a.tally.now
-    → PumpsText AnswersLine RefusesScriptRest lines room 193 a pending text left t u result b → OnOk (joined e result) (CountsRun old opening text b.tally.now b.machine.now)
+counts_run : (room : ℕ) (old : State) (tally : Tally) (a b : Session) (opening : List Op) (pending text : List ℕ) (left s t u : Option (List ℕ)) (e : Bool) (result : Result Summary IoError)
+    → IsTally [] [] tally → Opens room old tally opening pending s t e a.machine.now a.tally
+    → PumpsText AnswersLine RefusesScriptRest lines room 193 a pending text left t u result b → OnOk (joined e result) (CountsRun old opening text b.tally b.machine.now)
 unfolding all_opened
 counts_run room old tally a b opening pending text left s t u e (Ok summary) fresh o p =
     let out = p.1.of_text in
-    let opened = all_opened room old tally opening pending s t e a.machine.now a.tally.now o in
+    let opened = all_opened room old tally opening pending s t e a.machine.now a.tally o in
     let all = counted_all a out.mid opened.replies [] (lines_of text) out.answers out.takes (o.counted fresh) in
     let rest = counted_rest out.mid b opened.replies (exchanges_of (lines_of text) all.replies) (rest_of text) out.ending out.ends all.is_tally in
     record {
@@ -227,15 +220,15 @@ counts_run room old tally a b opening pending text left s t u e (Ok summary) fre
     }
 counts_run room old tally a b opening pending text left s t u e (Err error) fresh o p = tt
 
-pub runs_session : (room : ℕ) (old : State) (tally : Tally) (a b : Lent) (opening : List Op) (pending : List ℕ) (c left s t u : Option (List ℕ)) (e : Bool) (result : Result Summary IoError)
-    → IsReached old → IsTally [] [] tally → Opens room old tally opening pending s t e a.machine.now a.tally.now
-    → Pumps (λ (state : Lent). false) AnswersLine RefusesScriptRest lines room 193 a pending c left t u result b
-    → RunsSession room opening (io old c s) (joined e result) b.tally.now (io b.machine.now left u)
+pub runs_session : (room : ℕ) (old : State) (tally : Tally) (a b : Session) (opening : List Op) (pending : List ℕ) (c left s t u : Option (List ℕ)) (e : Bool) (result : Result Summary IoError)
+    → IsReached old → IsTally [] [] tally → Opens room old tally opening pending s t e a.machine.now a.tally
+    → Pumps (λ (state : Session). false) AnswersLine RefusesScriptRest lines room 193 a pending c left t u result b
+    → RunsSession room opening (io old c s) (joined e result) b.tally (io b.machine.now left u)
 unfolding pumps_script runs_script
 runs_session room old tally a b opening pending c left s t u e result reached fresh o p =
-    let runs = pumps_script room old tally a.tally.now opening a b pending c left s t u e result reached o p in
+    let runs = pumps_script room old tally a.tally opening a b pending c left s t u e result reached o p in
     record {
       main = runs.main;
       fails = runs.fails;
-      counts = counts_run room old tally a b opening pending p.text left s t u e result fresh o (runs_through (λ (state : Lent). false) _ _ _ _ _ _ _ _ _ _ _ _ _ refl p);
+      counts = counts_run room old tally a b opening pending p.text left s t u e result fresh o (runs_through (λ (state : Session). false) _ _ _ _ _ _ _ _ _ _ _ _ _ refl p);
     }

@@ -4,6 +4,5 @@ pub mod Main
 pub mod Failures
 pub mod Laws
 pub mod Answering
-pub mod BorrowedMachine
 pub mod Running
-pub mod Lending
+pub mod Session

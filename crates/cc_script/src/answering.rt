@@ -5,44 +5,41 @@ ghost use Rattle.cc_values.specs.declared.op.Op.{Op as OpSpec};
 ghost use Rattle.cc_syntax.specs.Commands.{operation_of};
 ghost use Rattle.cc_syntax.specs.Replies.{is_error};
 ghost use Rattle.cc_script.specs.Answering.{IsAnswered};
-ghost use Rattle.cc_script.specs.BorrowedMachine.{TakesScriptLine};
+ghost use Rattle.cc_script.specs.Session.{HasSameMachine, TakesScriptLine};
 
+use crate::session::Session;
 use cc_io::Page;
 use cc_machine::{Machine, Op, Reply};
 use cc_syntax::{MOST_BYTES, Taker, push_reply, take_command};
 use cc_word::Refusal;
 
-/// A borrowed machine that takes the commands of lines.
-#[derive(Drop)]
-struct BorrowedMachine<'a> {
-    /// The machine.
-    machine: &'a mut Machine,
-}
-
-/// Steps the machine by a line of a script, and appends the reply and a line feed.
+/// Steps the machine of a session by a line of a script, and appends the reply and a line feed.
 ///
 /// Requires: 193 bytes fit the page.
 /// Errors: the refusal of the line or of its operation; the text is unchanged then.
 #[inline(never)]
 #[tactic(auto, unfolding(cc_syntax::specs::Commands::operation_of))]
 pub fn answer_line<const N: usize>(
-    machine: &mut Machine,
+    session: &mut Session<'_>,
     text: &mut Page<N>,
     line: &[u8],
 ) -> Result<(), Refusal>
     requires { length text.old + 193 ≤ N }
     // The machine takes the line. At `Ok` the reply is appended, and at an error the text is
     // unchanged.
-    ensures answers { IsAnswered machine.old (operation_of line.now) result text.old text.new machine.new }
+    ensures answers { IsAnswered session.old.machine.now (operation_of line.now) result text.old text.new
+        session.new.machine.now }
     ensures fits { length text.new ≤ length text.old + 193 }
+    ensures same { HasSameMachine session.old session.new }
+    ensures tally { session.new.tally ≡ session.old.tally }
 {
     if line.len() > MOST_BYTES {
         return Err(Refusal::TooLong);
     }
-    take_command(&mut BorrowedMachine { machine }, text, line)
+    take_command(session, text, line)
 }
 
-impl<const N: usize> Taker<N> for BorrowedMachine<'_> {
+impl<const N: usize> Taker<N> for Session<'_> {
     type Out = Result<(), Refusal>;
 
     ghost Taken = { TakesScriptLine };

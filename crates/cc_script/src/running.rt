@@ -3,16 +3,15 @@ ghost use Rattle.std.specs.Prelude.{◌≡◌, ◌+◌, ◌≤◌, ◌<◌, ◌�
 ghost use Rattle.std.specs.Io.KnownBytes.{Appends};
 ghost use Rattle.cc_io.specs.Answers.{AnswersInto};
 ghost use Rattle.cc_io.specs.Devices.{AreReady, IsOutcome};
-ghost use Rattle.cc_machine.specs.Run.{IsReached};
 ghost use Rattle.cc_script.specs.Failures.{StopsInReplies};
 ghost use Rattle.cc_script.specs.Main.{io_of};
 ghost use Rattle.cc_script.specs.Laws.{KeepsLaws};
 ghost use Rattle.cc_script.specs.Running.{Opens, RunsSession, TakesOperation};
-ghost use Rattle.cc_script.specs.Lending.{AnswersLine, RefusesScriptRest};
+ghost use Rattle.cc_script.specs.Session.{AnswersLine, HasSameMachine, RefusesScriptRest};
 ghost use Rattle.cc_syntax.specs.Tally.{IsTally};
 
 use crate::answering::{answer_line, is_refusal};
-use crate::lent::Lent;
+use crate::session::Session;
 use cc_io::{
     Answerer, Failed, IoError, Lines, Page, Sink, Source, Summary, make_room, pump, refusal_bytes,
 };
@@ -20,7 +19,7 @@ use cc_machine::{Machine, Op};
 use cc_syntax::{Tally, push_any_reply};
 use cc_word::Refusal;
 
-impl<const N: usize> Answerer<N> for Lent<'_> {
+impl<const N: usize> Answerer<N> for Session<'_> {
     ghost Answered = { AnswersLine };
 
     ghost Ended = { RefusesScriptRest };
@@ -44,7 +43,7 @@ impl<const N: usize> Answerer<N> for Lent<'_> {
         requires { length out.old + 193 ≤ N }
         ensures { AnswersInto AnswersLine self.old entry.now out.old out.new result self.new }
     {
-        match answer_line(self.machine, out, entry) {
+        match answer_line(self, out, entry) {
             Ok(()) => {
                 self.tally.take_line();
                 false
@@ -83,55 +82,37 @@ impl<const N: usize> Answerer<N> for Lent<'_> {
 /// cut, and at most the lines after it whose replies were on the same page.
 pub fn run_session<R: Source, W: Sink, const N: usize>(
     opening: &[Op],
-    machine: &mut Machine,
-    tally: &mut Tally,
+    session: &mut Session<'_>,
     source: &mut R,
     sink: &mut W,
     page: &mut Page<N>,
 ) -> Result<Summary, IoError>
     requires ready { AreReady (R.state source.old) (W.state sink.old) }
-    requires fresh { IsTally [] [] tally.old }
+    requires fresh { IsTally [] [] session.old.tally }
     requires room { 193 ≤ N }
     // The main theorem (`main`), what was written before a failure (`fails`), and the counts of the
     // replies at `Ok` (`counts`).
     ensures runs { RunsSession N opening.now
-        (io_of machine.old (R.state source.old) (W.state sink.old)) result tally.new
-        (io_of machine.new (R.state source.new) (W.state sink.new)) }
+        (io_of session.old.machine.now (R.state source.old) (W.state sink.old)) result session.new.tally
+        (io_of session.new.machine.now (R.state source.new) (W.state sink.new)) }
     ensures outcome { IsOutcome (R.state source.new) (W.state sink.new) result }
-    ensures laws { KeepsLaws machine.old machine.new }
+    ensures laws { KeepsLaws session.old.machine.now session.new.machine.now }
+    ensures same { HasSameMachine session.old session.new }
 {
     // a contract says that a run leads to each machine's state, but only of a machine that is called
-    let _ = machine.slots();
-    let mut lent = Lent { machine, tally };
-    answer_script(opening, &mut lent, source, sink, page)
-}
-
-/// Replies to the setup operations, and then to the script.
-fn answer_script<R: Source, W: Sink, const N: usize>(
-    opening: &[Op],
-    lent: &mut Lent<'_>,
-    source: &mut R,
-    sink: &mut W,
-    page: &mut Page<N>,
-) -> Result<Summary, IoError>
-    requires ready { AreReady (R.state source.old) (W.state sink.old) }
-    requires reached { IsReached lent.old.machine.now }
-    requires fresh { IsTally [] [] lent.old.tally.now }
-    requires room { 193 ≤ N }
-    ensures same_machine { lent.new.machine.ghost_name ≡ lent.old.machine.ghost_name }
-    ensures same_tally { lent.new.tally.ghost_name ≡ lent.old.tally.ghost_name }
-    ensures runs { RunsSession N opening.now
-        (io_of lent.old.machine.now (R.state source.old) (W.state sink.old)) result lent.new.tally.now
-        (io_of lent.new.machine.now (R.state source.new) (W.state sink.new)) }
-    ensures laws { KeepsLaws lent.old.machine.now lent.new.machine.now }
-    ensures outcome { IsOutcome (R.state source.new) (W.state sink.new) result }
-{
+    let _ = session.machine.slots();
     page.clear();
-    let opening_error = match take_opening(opening, lent.machine, lent.tally, sink, page) {
+    let opening_error = match take_opening(
+        opening,
+        session.machine,
+        &mut session.tally,
+        sink,
+        page,
+    ) {
         Ok(is_error) => is_error,
         Err(Failed) => return Err(IoError::Write),
     };
-    match pump(&Lines, lent, source, sink, page) {
+    match pump(&Lines, session, source, sink, page) {
         Ok(summary) => Ok(Summary {
             any_error: opening_error | summary.any_error,
         }),

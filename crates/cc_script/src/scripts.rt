@@ -7,6 +7,7 @@ ghost use Rattle.cc_script.specs.Laws.{KeepsLaws};
 ghost use Rattle.cc_syntax.specs.Planning.{plan_opening};
 
 use crate::running::run_session;
+use crate::session::Session;
 use cc_bounds::{Align, Len};
 use cc_io::{IoError, Sink, Source, Summary, WholeLine};
 use cc_machine::{Machine, Op};
@@ -88,7 +89,10 @@ pub fn run_script_after<R: Source, W: Sink>(
     ensures outcome { IsOutcome (R.state source.new) (W.state sink.new) result }
     ensures laws { KeepsLaws machine.old machine.new }
 {
-    let mut tally = Tally::new();
+    let mut session = Session {
+        machine,
+        tally: Tally::new(),
+    };
     let mut page = WholeLine::new();
-    run_session(opening, machine, &mut tally, source, sink, &mut page)
+    run_session(opening, &mut session, source, sink, &mut page)
 }

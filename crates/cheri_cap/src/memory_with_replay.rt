@@ -9,7 +9,7 @@ use clap::Error;
 use cli::{Fault, GlobalMemory, Inputs, Invocation, Memory, ReplayValues};
 use cli_program::ReplaySupport;
 use cli_replay::{TraceMemory, replay_file};
-use cli_scripts::{RunMemory, Session};
+use cli_scripts::RunMemory;
 use std::alloc::{AllocError, Global};
 
 /// The memory of the process, in the program that has `replay`.
@@ -44,8 +44,8 @@ impl Memory for MemoryWithReplay {
 }
 
 impl RunMemory for MemoryWithReplay {
-    fn session(&mut self, limit: u32) -> Result<Session, AllocError> {
-        self.memory.session(limit)
+    fn machine(&mut self, limit: u32) -> Result<Machine, AllocError> {
+        self.memory.machine(limit)
     }
 
     fn usage(&mut self, machine: &Machine) -> Result<Usage, AllocError> {

@@ -73,7 +73,7 @@ main_of script bytes taken report pool console result has had does =
     on_devices-map ((script_run report pool script).Does console)
     (MeetsFrom script.opening (initial_state script.limit) (Some bytes) console.source_now.unread (Some taken) console.output_now.taken)
     (λ io from. met script.opening (initial_state script.limit) bytes taken from.source.unread console.source_now.unread console.output.taken console.output_now.taken io
-    (read_bytes bytes (console.input script.input) from.source.unread has from.known) had (from.does.session.machine, from.does.runs.main)) result does
+    (read_bytes bytes (console.input script.input) from.source.unread has from.known) had (from.does.session.machine.now, from.does.runs.main)) result does
 
 -- ---- memory that ran out
 

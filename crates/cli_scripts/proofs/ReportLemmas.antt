@@ -5,7 +5,7 @@ use Rattle.std.specs.Io.KnownBytes.{Appends}
 use Rattle.std.proofs.lemmas.Bool.{false≢true}
 use Rattle.cc_values.specs.declared.reply.Reply.{Reply}
 use Rattle.cli_scripts.specs.Hints.{hints_of, hints_text}
-use Rattle.cli_scripts.specs.declared.session.Session.{Session}
+use Rattle.cc_script.specs.declared.session.Session.{Session}
 use Rattle.cli_scripts.specs.Statistics.{statistics_text}
 use Rattle.cc_syntax.specs.Tally.{Exchange}
 use Rattle.cc_values.specs.declared.usage.Usage.{Usage}
@@ -23,7 +23,7 @@ of_answered (Ok value) P answered holds = holds
 of_answered (Err error) P answered holds = absurd (false≢true (sym answered))
 
 -- A summary that is requested.
-pub asked_summary : (asked : Bool) (session : Session) (usage : Usage) → asked ≡ true → IsMachineUsage session.machine usage
+pub asked_summary : (asked : Bool) (session : Session) (usage : Usage) → asked ≡ true → IsMachineUsage session.machine.now usage
     → IsSummary asked session (statistics_text usage session.tally)
 asked_summary false session usage is_asked is_usage = absurd (false≢true is_asked)
 asked_summary true session usage is_asked is_usage = (usage, is_usage, refl)

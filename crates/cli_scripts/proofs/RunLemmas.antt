@@ -11,7 +11,7 @@ use Rattle.cc_bounds.specs.declared.align.Align.{Align}
 use Rattle.cc_values.specs.declared.op.Op.{Op}
 use Rattle.cc_machine.specs.State.{State, initial_state}
 use Rattle.cc_syntax.specs.Planning.{plan_opening, pool_of}
-use Rattle.cli_scripts.specs.declared.session.Session.{Session}
+use Rattle.cc_script.specs.declared.session.Session.{Session}
 use Rattle.cli.specs.declared.invocation.PoolTexts.{PoolTexts}
 use Rattle.cli.specs.Devices.{Console, FromInput, OnDevices, traffic_of}
 use Rattle.cli.specs.Input.{file_input}

@@ -5,7 +5,7 @@ use Rattle.cc_values.specs.declared.reply.Reply.{Reply}
 use Rattle.cli_scripts.specs.Hints.{hints_of, hints_text}
 use Rattle.cc_machine.specs.Planned.{plan_of}
 use Rattle.cc_machine.specs.State.{State}
-use Rattle.cli_scripts.specs.declared.session.Session.{Session}
+use Rattle.cc_script.specs.declared.session.Session.{Session}
 use Rattle.cli_scripts.specs.Statistics.{statistics_text}
 use Rattle.cc_syntax.specs.Tally.{Exchange}
 use Rattle.cc_draw.specs.Usage.{IsUsage}
@@ -24,7 +24,7 @@ IsMachineUsage state usage = IsUsage (length state.slots) (plan_of state) usage
 -- IsSummary holds if the text is the summary of a run that ends with this session, or is empty if none is requested.
 abbrev pub IsSummary : (requested : Bool) → Session → (text : List ℕ) → Type 0
 IsSummary false session text = text ≡ []
-IsSummary true session text = (usage : Usage) × IsMachineUsage session.machine usage × (text ≡ statistics_text usage session.tally)
+IsSummary true session text = (usage : Usage) × IsMachineUsage session.machine.now usage × (text ≡ statistics_text usage session.tally)
 
 -- The hints after a run with these replies to its opening, and these lines with their replies, or no bytes if no hints are
 -- written.

@@ -17,7 +17,7 @@ use Rattle.cc_draw.specs.Map.{IsMap}
 use Rattle.cc_syntax.specs.Planning.{plan_opening, pool_of}
 use Rattle.cc_script.specs.Main.{Main}
 use Rattle.cc_script.specs.Running.{RunsSession}
-use Rattle.cli_scripts.specs.declared.session.Session.{Session}
+use Rattle.cc_script.specs.declared.session.Session.{Session}
 use Rattle.cli_scripts.specs.Statistics.{statistics_text}
 use Rattle.cc_syntax.specs.Tally.{Exchange, IsTally}
 use Rattle.cc_values.specs.declared.usage.Usage.{Usage}
@@ -53,7 +53,7 @@ pub record ReportsRun (report : Report) (opening : List Op) (pool : Option ℕ) 
   pub session : Session
   pub runs :
       RunsSession 65536 opening (record { machine = start; unread = traffic.source.unread; taken = traffic.output.taken }) result session.tally
-      (record { machine = session.machine; unread = traffic.source_now.unread; taken = traffic.output_now.taken })
+      (record { machine = session.machine.now; unread = traffic.source_now.unread; taken = traffic.output_now.taken })
   pub reported : OnOk result (traffic.errors_now.has_failed ≡ false → (first : List Reply) (exchanges : List Exchange)
       → IsTally first exchanges session.tally → WritesReport report session first exchanges pool traffic.errors.taken traffic.errors_now.taken)
 
@@ -62,14 +62,14 @@ pub record ReportsRun (report : Report) (opening : List Op) (pool : Option ℕ) 
 pub record DrawsMap (session : Session) (output output_now : Option (List ℕ)) : Type 0 where
   pub map : List ℕ
   pub usage : Usage
-  pub is_map : IsMap (plan_of session.machine) map
-  pub is_usage : IsMachineUsage session.machine usage
+  pub is_map : IsMap (plan_of session.machine.now) map
+  pub is_usage : IsMachineUsage session.machine.now usage
   pub written : Appends output output_now (map ++ statistics_text usage session.tally)
 
 -- DrawsPage holds if the drawing of the machine's pool was written.
 pub record DrawsPage (session : Session) (output output_now : Option (List ℕ)) : Type 0 where
   pub page : List ℕ
-  pub is_drawing : IsDrawing (plan_of session.machine) page
+  pub is_drawing : IsDrawing (plan_of session.machine.now) page
   pub written : Appends output output_now page
 
 -- DrawsPool holds if the pool was drawn: as an SVG document, or as a map.
@@ -83,7 +83,7 @@ pub record DrawsEnd (svg : Bool) (opening : List Op) (start : State) (traffic : 
   pub session : Session
   pub runs :
       RunsSession 65536 opening (record { machine = start; unread = traffic.source.unread; taken = None }) (Ok summary) session.tally
-      (record { machine = session.machine; unread = traffic.source_now.unread; taken = None })
+      (record { machine = session.machine.now; unread = traffic.source_now.unread; taken = None })
   pub drawn : DrawsPool svg session traffic.output.taken traffic.output_now.taken
 
 -- DrawsRun holds if the pool was drawn at the end of the run. Nothing was written if a read failed.

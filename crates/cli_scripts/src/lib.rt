@@ -6,7 +6,6 @@ mod maps;
 mod memory;
 mod report;
 mod runs;
-mod session;
 mod statistics;
 
 pub use hints::{Hints, show_hints};
@@ -14,5 +13,4 @@ pub use maps::map_file;
 pub use memory::RunMemory;
 pub use report::{Report, Terminals};
 pub use runs::{plan_file, run_file};
-pub use session::Session;
 pub use statistics::show_statistics;

@@ -2,21 +2,19 @@
 ghost use Rattle.std.specs.Prelude.{◌≡◌, ◌≢◌, ◌≤◌, ◌↔◌, [], false, true, Err, IsOk, OnOk};
 ghost use Rattle.cc_machine.specs.State.{initial_state};
 ghost use Rattle.cc_syntax.specs.Planning.{pool_of};
-ghost use Rattle.cc_syntax.specs.Tally.{IsTally};
 ghost use Rattle.cc_io.specs.Devices.{OutputState};
 ghost use Rattle.cli.specs.Devices.{FromInput, IsEnd, OnDevices, OnOutput, traffic_on};
 ghost use Rattle.cli.specs.Input.{IsFile, file_input};
 ghost use Rattle.cli_scripts.specs.Runs.{DrawsRun, MapsFile};
 
 use crate::memory::RunMemory;
-use crate::session::Session;
 use crate::statistics::show_statistics;
 use cc_bounds::Align;
 use cc_draw::{show_drawing, show_map};
 use cc_io::{Pending, Sink, Source, Summary, write_refusal};
-use cc_machine::Op;
-use cc_script::run_session;
-use cc_syntax::{plan_numbers, plan_opening};
+use cc_machine::{Machine, Op};
+use cc_script::{Session, run_session};
+use cc_syntax::{Tally, plan_numbers, plan_opening};
 use cli::{Content, Discard, Fault, InputName, Inputs, PoolTexts, file_input};
 
 /// Runs the script that FILE names on a new machine with a pool, without writing the replies, and draws the pool: as an
@@ -104,9 +102,9 @@ fn draw<M: RunMemory, I: Inputs, W: Sink>(
     ensures end { IsEnd (I.has_refused inputs.new) (I.Opened.state source.new) (W.state sink.old) (W.state sink.new)
         result }
 {
-    let mut session = memory.session(limit)?;
+    let mut machine = memory.machine(limit)?;
     inputs.open(input, Content::Pool, source)?;
-    draw_end(memory, opening, svg, &mut session, source, sink)
+    draw_end(memory, opening, svg, &mut machine, source, sink)
 }
 
 /// Runs a script without writing the replies, and draws the pool if the script came to its end: an SVG document, or a
@@ -115,15 +113,14 @@ fn draw_end<M: RunMemory, S: Source, W: Sink>(
     memory: &mut M,
     opening: &[Op],
     svg: bool,
-    session: &mut Session,
+    machine: &mut Machine,
     source: &mut S,
     sink: &mut W,
 ) -> Result<Summary, Fault>
-    requires fresh { IsTally [] [] session.old.tally }
     requires memory { M.has_failed memory.old ≡ false }
     requires source { (S.state source.old).has_failed ≡ false }
     requires sink { (W.state sink.old).has_failed ≡ false }
-    ensures draws { (errors errors_now : OutputState) → OnDevices (DrawsRun svg opening.now session.old.machine
+    ensures draws { (errors errors_now : OutputState) → OnDevices (DrawsRun svg opening.now machine.old
         (traffic_on (S.state source.old) (S.state source.new) (W.state sink.old) (W.state sink.new) errors errors_now))
         result }
     ensures open { result ≢ Err Fault.Open }
@@ -133,19 +130,16 @@ fn draw_end<M: RunMemory, S: Source, W: Sink>(
     ensures write { (result ≡ Err Fault.Write) ↔ ((W.state sink.new).has_failed ≡ true) }
     ensures flushed { OnOk result ((W.state sink.new).is_flushed ≡ true) }
 {
+    let mut session = Session {
+        machine,
+        tally: Tally::new(),
+    };
     let mut page = Pending::new();
-    let summary = run_session(
-        opening,
-        &mut session.machine,
-        &mut session.tally,
-        source,
-        &mut Discard,
-        &mut page,
-    )?;
+    let summary = run_session(opening, &mut session, source, &mut Discard, &mut page)?;
     if svg {
         show_drawing(session.machine.planner(), sink)?;
     } else {
-        let usage = memory.usage(&session.machine)?;
+        let usage = memory.usage(session.machine)?;
         show_map(session.machine.planner(), sink)?;
         show_statistics(&usage, &session.tally, sink)?;
     }

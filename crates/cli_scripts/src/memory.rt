@@ -1,11 +1,9 @@
 //! The memory of a run.
-ghost use Rattle.std.specs.Prelude.{◌≡◌, ◌≤◌, ◌^◌, ◌↔◌, [], IfOk, IsErr, true};
+ghost use Rattle.std.specs.Prelude.{◌≡◌, ◌≤◌, ◌^◌, ◌↔◌, IfOk, IsErr, true};
 ghost use Rattle.cc_machine.specs.State.{initial_state};
-ghost use Rattle.cc_syntax.specs.Tally.{IsTally};
 ghost use Rattle.cli_scripts.specs.Report.{IsMachineUsage};
 
 use crate::report::machine_usage;
-use crate::session::{Session, new_session};
 use cc_machine::Machine;
 use cc_values::Usage;
 use cli::{GlobalMemory, Memory};
@@ -13,15 +11,14 @@ use std::alloc::AllocError;
 
 /// The memory for the machine of a script, and for the summary of its run.
 pub trait RunMemory: Memory {
-    /// Creates the session of a new machine with at most `limit` slots and objects.
+    /// Creates a machine with at most `limit` slots and objects.
     ///
     /// Requires: `1 <= limit <= 65536`.
     /// Errors: an allocation fails.
-    fn session(&mut self, limit: u32) -> Result<Session, AllocError>
+    fn machine(&mut self, limit: u32) -> Result<Machine, AllocError>
         requires from_one { 1 ≤ limit }
         requires at_most { limit ≤ 65536 }
-        ensures machine { IfOk result (λ session. session.machine ≡ initial_state limit) }
-        ensures fresh { IfOk result (λ session. IsTally [] [] session.tally) }
+        ensures machine { IfOk result (λ machine. machine ≡ initial_state limit) }
         ensures fails { IsErr result ↔ (Self.has_failed self.new ≡ true) };
 
     /// Returns the use of a machine's slots, objects and pool. At most 2^80 bytes are held.
@@ -34,10 +31,10 @@ pub trait RunMemory: Memory {
 }
 
 impl RunMemory for GlobalMemory {
-    fn session(&mut self, limit: u32) -> Result<Session, AllocError> {
-        let session = new_session(self.alloc, limit);
-        self.has_failed = session.is_err();
-        session
+    fn machine(&mut self, limit: u32) -> Result<Machine, AllocError> {
+        let machine = Machine::with_limit(self.alloc, limit);
+        self.has_failed = machine.is_err();
+        machine
     }
 
     fn usage(&mut self, machine: &Machine) -> Result<Usage, AllocError> {

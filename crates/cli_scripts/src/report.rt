@@ -7,11 +7,11 @@ ghost use Rattle.cli_scripts.specs.Report.{IsMachineUsage, WritesReport, report_
 
 use crate::hints::{Hints, show_hints};
 use crate::memory::RunMemory;
-use crate::session::Session;
 use crate::statistics::show_statistics;
 use cc_draw::usage_of;
 use cc_io::Sink;
 use cc_machine::{Len, Machine};
+use cc_script::Session;
 use cc_values::Usage;
 use std::alloc::{AllocError, Global};
 
@@ -51,7 +51,7 @@ impl Report {
 /// Errors: `AllocError` if the summary is requested and an allocation fails; nothing is written then.
 pub fn write_report<M: RunMemory, E: Sink>(
     memory: &mut M,
-    session: &Session,
+    session: &Session<'_>,
     pool: Option<Len>,
     report: Report,
     errors: &mut E,
@@ -67,7 +67,7 @@ pub fn write_report<M: RunMemory, E: Sink>(
     ensures wanted { OnErr result (report.stats ≡ true) }
 {
     if report.stats {
-        let usage = memory.usage(&session.machine)?;
+        let usage = memory.usage(session.machine)?;
         if show_statistics(&usage, &session.tally, errors).is_err() {
             return Ok(());
         }

@@ -2,19 +2,17 @@
 ghost use Rattle.std.specs.Prelude.{◌≡◌, ◌≢◌, ◌≤◌, ◌↔◌, [], false, true, Err, IfOk, IsOk, None, OnErr, OnOk};
 ghost use Rattle.cc_machine.specs.State.{initial_state};
 ghost use Rattle.cc_syntax.specs.Planning.{plan_opening, pool_of};
-ghost use Rattle.cc_syntax.specs.Tally.{IsTally};
 ghost use Rattle.cli.specs.Devices.{FromInput, IsEnd, OnDevices, console_of, traffic_on};
 ghost use Rattle.cli.specs.Input.{IsFile, file_input};
 ghost use Rattle.cli_scripts.specs.Runs.{CompletesRun, PlansFile, ReportsRun, StarvesPlan, StarvesRun};
 
 use crate::memory::RunMemory;
 use crate::report::{Report, write_report};
-use crate::session::Session;
 use cc_bounds::Align;
 use cc_io::{Pending, Sink, Source, Summary, write_refusal};
-use cc_machine::{Len, Op};
-use cc_script::run_session;
-use cc_syntax::{plan_numbers, plan_opening};
+use cc_machine::{Len, Machine, Op};
+use cc_script::{Session, run_session};
+use cc_syntax::{Tally, plan_numbers, plan_opening};
 use cli::{Content, Fault, InputName, Inputs, PoolTexts, file_input};
 
 /// Runs the script that FILE names on a new machine with at most `limit` slots and objects: writes the replies to
@@ -167,14 +165,14 @@ fn run<M: RunMemory, I: Inputs, W: Sink, E: Sink>(
         result }
     ensures unreported { OnErr result ((E.state errors.new).taken ≡ (E.state errors.old).taken) }
 {
-    let mut session = memory.session(limit)?;
+    let mut machine = memory.machine(limit)?;
     inputs.open(input, Content::Script, source)?;
     run_and_report(
         memory,
         opening,
         pool,
         report,
-        &mut session,
+        &mut machine,
         source,
         sink,
         errors,
@@ -187,38 +185,34 @@ fn run_and_report<M: RunMemory, S: Source, W: Sink, E: Sink>(
     opening: &[Op],
     pool: Option<Len>,
     report: Report,
-    session: &mut Session,
+    machine: &mut Machine,
     source: &mut S,
     sink: &mut W,
     errors: &mut E,
 ) -> Result<Summary, Fault>
-    requires fresh { IsTally [] [] session.old.tally }
     requires memory { M.has_failed memory.old ≡ false }
     requires source { (S.state source.old).has_failed ≡ false }
     requires sink { (W.state sink.old).has_failed ≡ false }
     requires errors { (E.state errors.old).has_failed ≡ false }
-    ensures runs { OnDevices (ReportsRun report opening.now pool session.old.machine
+    ensures runs { OnDevices (ReportsRun report opening.now pool machine.old
         (traffic_on (S.state source.old) (S.state source.new) (W.state sink.old) (W.state sink.new) (E.state errors.old)
         (E.state errors.new))) result }
     ensures open { result ≢ Err Fault.Open }
     ensures read { (result ≡ Err Fault.Read) ↔ ((S.state source.new).has_failed ≡ true) }
     ensures allocates { (result ≡ Err Fault.Memory) ↔ (M.has_failed memory.new ≡ true) }
     ensures write { (result ≡ Err Fault.Write) ↔ ((W.state sink.new).has_failed ≡ true) }
-    ensures starved { result ≡ Err Fault.Memory → (report.stats ≡ true) × CompletesRun opening.now session.old.machine
+    ensures starved { result ≡ Err Fault.Memory → (report.stats ≡ true) × CompletesRun opening.now machine.old
         (traffic_on (S.state source.old) (S.state source.new) (W.state sink.old) (W.state sink.new) (E.state errors.old)
         (E.state errors.new)) }
     ensures flushed { OnOk result ((W.state sink.new).is_flushed ≡ true) }
     ensures unreported { OnErr result ((E.state errors.new).taken ≡ (E.state errors.old).taken) }
 {
+    let mut session = Session {
+        machine,
+        tally: Tally::new(),
+    };
     let mut page = Pending::new();
-    let summary = run_session(
-        opening,
-        &mut session.machine,
-        &mut session.tally,
-        source,
-        sink,
-        &mut page,
-    )?;
-    write_report(memory, session, pool, report, errors)?;
+    let summary = run_session(opening, &mut session, source, sink, &mut page)?;
+    write_report(memory, &session, pool, report, errors)?;
     Ok(summary)
 }

@@ -8,7 +8,7 @@ use Rattle.cli_scripts.proofs.maps.draw_end.Goals as goal
 
 pub returns-in_ok-show_drawing-clause-draws : goal.returns-in_ok-show_drawing-clause-draws
 returns-in_ok-show_drawing-clause-draws g c = λ errors errors_now. record {
-  session = record { machine = c.run_session.new.machine; tally = c.run_session.new.tally };
+  session = c.run_session.new.session;
   runs = c.in_ok-summary.ensures.runs;
   drawn = draws_page _ _ _ _ c.if-svg.true (record {
     page = c.in_ok-show_drawing.ensures.shown.answer;
@@ -19,7 +19,7 @@ returns-in_ok-show_drawing-clause-draws g c = λ errors errors_now. record {
 
 pub returns-in_ok-show_statistics-clause-draws : goal.returns-in_ok-show_statistics-clause-draws
 returns-in_ok-show_statistics-clause-draws g c = λ errors errors_now. record {
-  session = record { machine = c.run_session.new.machine; tally = c.run_session.new.tally };
+  session = c.run_session.new.session;
   runs = c.in_ok-summary.ensures.runs;
   drawn = draws_map _ _ _ _ c.if-svg.false (record {
     map = c.in_ok-show_map.ensures.shown.answer;

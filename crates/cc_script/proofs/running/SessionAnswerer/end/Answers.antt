@@ -1,5 +1,5 @@
 use Rattle.std.proofs.Common.{[], refl}
-use Rattle.cc_script.proofs.running.LentAnswerer.end.Goals as goal
+use Rattle.cc_script.proofs.running.SessionAnswerer.end.Goals as goal
 
 pub returns : goal.returns
 returns g c = record {
@@ -10,6 +10,6 @@ returns g c = record {
     error_is = refl;
     stays = refl;
     counted = λ opening exchanges counts. c.take_refused.ensures opening exchanges [] refl counts;
-    same = record { machine = refl; tally = refl };
+    same = refl;
   };
 }

@@ -1,8 +1,10 @@
-use Rattle.std.proofs.Common.{◌∙◌, ap, arith, ◌++◌, ℕ, List, length, length-append, refl, sym}
+use Rattle.std.proofs.Common.{◌∙◌, ap, arith, ◌++◌, ℕ, List, length, length-append, refl, subst, sym}
 use Rattle.cc_values.specs.declared.reply.Reply.TheVariants.{Refused}
 use Rattle.cc_script.specs.Output.{with_line_feed}
 use Rattle.cc_syntax.specs.Replies.{reply_text}
-use Rattle.cc_script.proofs.running.LentAnswerer.answer.Goals as goal
+use Rattle.cc_syntax.specs.Tally.{IsTally}
+use Rattle.cc_syntax.specs.declared.tally.Tally.{Tally}
+use Rattle.cc_script.proofs.running.SessionAnswerer.answer.Goals as goal
 
 pub returns-in-Ok : goal.returns-in-Ok
 returns-in-Ok g c =
@@ -16,8 +18,9 @@ returns-in-Ok g c =
         text_is = refl;
         error_is = sym r.error_is;
         fits = omega (arith, c.answer_line.ensures.fits, ap (λ (l : List ℕ). length l) r.text_is, length-append c.args.out.now (with_line_feed (reply_text r.reply)));
-        counted = λ opening exchanges whole is counts. c.take_line.ensures opening exchanges whole r.reply r.error_is counts;
-        same = record { machine = refl; tally = refl };
+        counted = λ opening exchanges whole is counts. c.take_line.ensures opening exchanges whole r.reply r.error_is
+            (subst (λ (tally : Tally). IsTally opening exchanges tally) (sym c.answer_line.ensures.tally) counts);
+        same = c.answer_line.ensures.same;
       };
     }
 
@@ -32,7 +35,8 @@ returns-in-Err g c = record {
     text_is = c.refusal_bytes.ensures.value;
     error_is = refl;
     fits = omega (arith, c.refusal_bytes.ensures.fits);
-    counted = λ opening exchanges whole is counts. c.take_refused.ensures opening exchanges whole is counts;
-    same = record { machine = refl; tally = refl };
+    counted = λ opening exchanges whole is counts. c.take_refused.ensures opening exchanges whole is
+            (subst (λ (tally : Tally). IsTally opening exchanges tally) (sym c.answer_line.ensures.tally) counts);
+    same = c.answer_line.ensures.same;
   };
 }
