@@ -1,5 +1,5 @@
 -- A trace of three events, and its script.
-use Rattle.std.specs.Prelude.{ℕ, false, List, [], ◌∷◌, codes}
+use Rattle.std.specs.Prelude.{ℕ, false, List, [], ◌∷◌, codes, None}
 use Rattle.cc_bounds.specs.Span.{span_from}
 use Rattle.cc_bounds.specs.declared.align.Align.TheVariants.{One}
 use Rattle.cc_replay.specs.declared.formats.TraceFormat.TheVariants.{Own}
@@ -22,7 +22,7 @@ worked_settings = record {
 
 -- The own format, without a series.
 abbrev pub worked_reading : Reading
-worked_reading = record { format = Own; is_strict = false; each = 0 }
+worked_reading = record { format = Own; is_strict = false; each = None }
 
 -- An object of 16 bytes is made, freed and swept.
 abbrev pub worked_trace : List ℕ

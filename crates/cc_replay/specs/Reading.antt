@@ -1,5 +1,5 @@
 -- How a trace is read: when no further line is taken, and which events have a sample.
-use Rattle.std.specs.Prelude.{ℕ, Bool, true, false, not, ◌&&◌, ◌||◌, ◌==◌, ◌%◌, if◌then◌else◌}
+use Rattle.std.specs.Prelude.{ℕ, Bool, true, false, not, ◌&&◌, ◌||◌, ◌==◌, ◌%◌, if◌then◌else◌, Option, Some, None, is_some}
 use Rattle.cc_replay.specs.declared.reading.Progress.{Progress}
 use Rattle.cc_replay.specs.declared.reading.Progress.TheVariants.{Running, Stopped}
 use Rattle.cc_replay.specs.declared.reading.Reading.{Reading}
@@ -15,14 +15,19 @@ is_over _ = true
 abbrev pub progress_after : Reading → (is_refused : Bool) → Progress
 progress_after reading is_refused = if reading.is_strict && is_refused then Stopped else Running
 
+-- Whether a number is a multiple of one that is not 0.
+abbrev pub is_multiple : (number : ℕ) → Option ℕ → Bool
+is_multiple number None = false
+is_multiple number (Some each) = not (each == 0) && number % each == 0
+
 -- Whether an event has a sample for its number, a multiple of the given one, if there is a series.
 abbrev pub is_regular : Reading → (event : ℕ) → Bool
-is_regular reading event = not (reading.each == 0) && event % reading.each == 0
+is_regular reading event = is_multiple event reading.each
 
 -- Whether an event has a sample: for its number, or since it leads to a sweep, if there is a series.
 abbrev pub is_due : Reading → (event sweeps sweeps_now : ℕ) → Bool
 is_due reading event sweeps sweeps_now =
-    is_regular reading event || not (reading.each == 0) && not (sweeps_now == sweeps)
+    is_regular reading event || is_some reading.each && not (sweeps_now == sweeps)
 
 -- The reason of the sample of an event that has one.
 abbrev pub reason_of : Reading → (event : ℕ) → SampleReason

@@ -1,5 +1,5 @@
 -- A heap over a trace that takes its lines, and the output: the samples of a series.
-use Rattle.std.specs.Prelude.{◌≡◌, ◌⊎◌, ℕ, Bool, true, false, not, ◌&&◌, ◌==◌, List, [], ◌∷◌, if◌then◌else◌, Option, Some, None, Result, Ok}
+use Rattle.std.specs.Prelude.{◌≡◌, ◌⊎◌, ℕ, Bool, true, false, not, ◌&&◌, ◌==◌, List, [], ◌∷◌, if◌then◌else◌, Option, Some, None, is_some, Result, Ok}
 use Rattle.cc_word.specs.declared.refusal.Refusal.{Refusal}
 use Rattle.cc_replay.specs.declared.counts.Count.{Count}
 use Rattle.cc_replay.specs.declared.counts.Counts.{Counts}
@@ -144,12 +144,12 @@ TakesRest old = TakesRestIn replaying old.progress old
 
 -- The header of the series: the names of its columns, or nothing if there is no series.
 abbrev pub series_header : ReplayState → List ℕ
-series_header state = if state.reading.each == 0 then [] else names_line (sample_rows Last 0 (figures_of state))
+series_header state = if is_some state.reading.each then names_line (sample_rows Last 0 (figures_of state)) else []
 
 -- The last sample of the series: the sample of the end, if there was an event and the last has
 -- none.
 abbrev pub last_sample : ReplayState → List ℕ
-last_sample state = sample_text (not (state.reading.each == 0) && not state.is_sampled) Last state
+last_sample state = sample_text (is_some state.reading.each && not state.is_sampled) Last state
 
 -- The events, after the event of a line, if the line is an event.
 abbrev pub event_before : Result (Option Event) Refusal → List Event → List Event

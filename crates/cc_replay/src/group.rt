@@ -231,5 +231,5 @@ fn rows_with_policy<P: Placer>(replay: &Replay<P>) -> ArrayVec<Row, MOST_ROWS>
     ensures value { table_rows result.items ≡ policy_rows replay.now }
     ensures few { array_vec_len result ≤ 44 }
 {
-    policy_rows(replay.settings().policy, &replay.figures())
+    policy_rows(replay.run().heap().settings().policy, &replay.figures())
 }

@@ -11,8 +11,8 @@ pub struct Reading {
     pub format: TraceFormat,
     /// Whether no line is taken after the first that is refused.
     pub is_strict: bool,
-    /// The number of events from a sample of the series to the next, or 0 if there is no series.
-    pub each: u64,
+    /// The number of events from a sample of the series to the next, if there is a series.
+    pub each: Option<u64>,
 }
 
 /// Why a series has a sample.
@@ -66,7 +66,7 @@ impl Reading {
     pub fn is_due(self, event: u64, sweeps: u64, sweeps_now: u64) -> bool
         ensures { result ≡ is_due self event sweeps sweeps_now }
     {
-        self.is_regular(event) || self.each != 0 && sweeps_now != sweeps
+        self.is_regular(event) || self.each.is_some() && sweeps_now != sweeps
     }
 
     /// Returns the reason of the sample of the event of this number, if it has one.
@@ -84,6 +84,9 @@ impl Reading {
     fn is_regular(self, event: u64) -> bool
         ensures { result ≡ is_regular self event }
     {
-        self.each != 0 && event % self.each == 0
+        match self.each {
+            Some(each) => each != 0 && event % each == 0,
+            None => false,
+        }
     }
 }

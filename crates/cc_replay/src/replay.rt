@@ -17,7 +17,7 @@ use crate::counts::{Count, Counts};
 use crate::series::{MOST_SAMPLE, push_sample, push_series_header};
 use crate::summary::Figures;
 use crate::{Entry, Progress, Reading, SampleReason, read_entry};
-use cc_heap::{Event, Heap, Run, Settings, SizeTotals};
+use cc_heap::{Event, Heap, Run, Settings};
 use cc_io::{
     Answerer, IoError, Lines, Page, Pending, Sink, Source, Summary, pump, write_and_flush,
 };
@@ -123,19 +123,11 @@ impl<P: Placer> Replay<P> {
         }
     }
 
-    /// Returns the settings of the heap.
-    pub fn settings(&self) -> Settings
-        ensures { result ≡ self.now.run.heap.settings }
+    /// Returns the run of the heap.
+    pub fn run(&self) -> &Run<P>
+        ensures { result.now ≡ self.now.run }
     {
-        self.run.heap().settings()
-    }
-
-    /// Returns the numbers of the objects that were made, with a row for each power of two: the row
-    /// of the objects whose sizes are at least the power, and below the next.
-    pub fn sizes(&self) -> &[SizeTotals; 64]
-        ensures { result.now ≡ self.now.run.sizes }
-    {
-        self.run.sizes()
+        &self.run
     }
 
     /// Forgets the peaks of bytes of the heap, so that those after a line are of its event alone.
@@ -166,7 +158,7 @@ impl<P: Placer> Replay<P> {
         requires { length page.old + most_sample ≤ N }
         ensures { page.new ≡ page.old ++ last_sample self.now }
     {
-        if self.reading.each != 0 && !self.is_sampled {
+        if self.reading.each.is_some() && !self.is_sampled {
             push_sample(page, SampleReason::Last, self.time, &self.figures());
         }
     }
@@ -230,7 +222,7 @@ impl<P: Placer> Replay<P> {
         requires { length page.old + most_sample ≤ N }
         ensures { page.new ≡ page.old ++ series_header self.now }
     {
-        if self.reading.each != 0 {
+        if self.reading.each.is_some() {
             push_series_header(page, &self.figures());
         }
     }

@@ -1,27 +1,24 @@
 -- The command `replay` of the program.
 use Rattle.std.specs.Borrow.{Bor}
-use Rattle.std.specs.Prelude.{◌≡◌, List, Option, Result, is_ok}
+use Rattle.std.specs.Prelude.{◌≡◌, Option, Result, is_ok}
 use Rattle.clap.specs.Words.{Text}
-use Rattle.cc_replay.specs.declared.reading.Reading.{Reading}
-use Rattle.cc_heap.specs.declared.policy.Policy.{Policy}
-use Rattle.cc_heap.specs.declared.settings.Settings.{Settings}
 use Rattle.cc_io.specs.declared.summary.IoError.{IoError}
 use Rattle.cc_io.specs.declared.summary.Summary.{Summary}
 use Rattle.cli.specs.Devices.{Console}
 use Rattle.cli.specs.Input.{file_input, trace_content}
-use Rattle.cli.specs.declared.invocation.ReplayOutput.{ReplayOutput}
 use Rattle.cli.specs.declared.invocation.ReplayValues.{ReplayValues}
 use Rattle.cli_program.specs.Execution.{Effect, ReplayCommand, WritesNothing, reads, with_values}
 use Rattle.cli_replay.specs.ReplayValues.{replay_in}
 use Rattle.cli_replay.specs.Replaying.{IsStreaming, ReplaysTrace}
+use Rattle.cli_replay.specs.declared.replay_values.ReplayRequest.{ReplayRequest}
 
--- The effect of `replay` with an output, a heap, and a reading with the policies of other heaps.
-abbrev pub trace_replay : ReplayValues → Option (Bor Text) → ReplayOutput × (Settings × (Reading × List Policy)) → Effect
-trace_replay values file found =
-    reads (file_input file) (trace_content values.output) (ReplaysTrace found.0 found.1.0 found.1.1)
+-- The effect of `replay` with the request of its values.
+abbrev pub trace_replay : ReplayValues → Option (Bor Text) → ReplayRequest → Effect
+trace_replay values file request =
+    reads (file_input file) (trace_content values.output) (ReplaysTrace request)
     (λ console. ¬ IsStreaming values.output → WritesNothing console) ⊥
 
--- The command `replay`: its values are accepted if they give an output, a heap and a reading.
+-- The command `replay`: its values are accepted if they give a request.
 abbrev pub with_replay : ReplayCommand
 with_replay = record {
   accepts = λ values. is_ok (replay_in values);

@@ -1,11 +1,10 @@
 -- The output of `replay`, from that of its parts.
-use Rattle.std.proofs.Common.{◌≡◌, ◌≢◌, Bool, true, false, ◌==◌, List, [], ◌∷◌, length, arith, Option, Some, Result, Ok, MatchResult, refl, subst, sym}
+use Rattle.std.proofs.Common.{◌≡◌, ◌≢◌, true, false, ◌==◌, List, [], ◌∷◌, length, arith, Option, Some, Result, Ok, MatchResult, refl, subst, sym}
 use Rattle.std.specs.Prelude.{IfSome}
 use Rattle.std.specs.Borrow.{Bor}
 use Rattle.std.proofs.lemmas.Bool.{eqb-true}
 use Rattle.clap.specs.Words.{Text}
 use Rattle.cc_word.specs.declared.refusal.Refusal.{Refusal}
-use Rattle.cc_bounds.specs.declared.align.Align.{Align}
 use Rattle.cc_io.specs.CommandOutput.{WritesRefusal}
 use Rattle.cc_io.specs.Devices.{InputState}
 use Rattle.cc_io.specs.declared.summary.Summary.{Summary}
@@ -28,28 +27,29 @@ use Rattle.cli.proofs.DeviceLemmas.{on_devices-map}
 use Rattle.cli_replay.specs.Charting.{Charted, charted_text}
 use Rattle.cli_replay.specs.Outputs.{Samples, Scripts, SumsUp}
 use Rattle.cli_replay.specs.ReplayValues.{replay_in}
-use Rattle.cli_replay.specs.Replaying.{Charts, GroupReplays, Replays, ReplaysTrace, WithReplay, Writes, group_text, replay_text}
+use Rattle.cli_replay.specs.declared.replay_values.ReplayRequest.{ReplayRequest}
+use Rattle.cli_replay.specs.Replaying.{Charts, GroupReplays, Replays, ReplaysEach, ReplaysTrace, WithReplay, Writes, group_text, replay_text}
 
--- The replay that the values ask for, from that of these settings.
+-- The replay that the values request, from that of their request.
 pub with_replay : (values : ReplayValues) (file : Option (Bor Text)) (console : Console) (source : InputState)
-    (found : ReplayOutput × (Settings × (Reading × List Policy))) (input : InputName) (result : Result Summary Fault) → replay_in values ≡ Ok found → input ≡ file_input file
+    (request : ReplayRequest) (input : InputName) (result : Result Summary Fault) → replay_in values ≡ Ok request → input ≡ file_input file
     → IfSome (console.input input) (λ bytes. source.unread ≡ Some bytes)
-    → OnDevices (ReplaysTrace found.0 found.1.0 found.1.1 (traffic_of console source)) result
-    → OnDevices (WithReplay values console (λ output settings plan. FromInput (file_input file) console (ReplaysTrace output settings plan))) result
-with_replay values file console source found input result is_found is_input known holds =
-    on_devices-map (ReplaysTrace found.0 found.1.0 found.1.1 (traffic_of console source))
-    (WithReplay values console (λ output settings plan. FromInput (file_input file) console (ReplaysTrace output settings plan)))
+    → OnDevices (ReplaysTrace request (traffic_of console source)) result
+    → OnDevices (WithReplay values console (λ request. FromInput (file_input file) console (ReplaysTrace request))) result
+with_replay values file console source request input result is_found is_input known holds =
+    on_devices-map (ReplaysTrace request (traffic_of console source))
+    (WithReplay values console (λ request. FromInput (file_input file) console (ReplaysTrace request)))
     (λ io done.
-    subst (λ (given : Result (ReplayOutput × (Settings × (Reading × List Policy))) Refusal). MatchResult given
-    (λ found. FromInput (file_input file) console (ReplaysTrace found.0 found.1.0 found.1.1) io)
+    subst (λ (given : Result ReplayRequest Refusal). MatchResult given
+    (λ request. FromInput (file_input file) console (ReplaysTrace request) io)
     (λ refusal. WritesRefusal console.output console.output_now refusal io)) (sym is_found)
-    (subst (λ (name : InputName). FromInput name console (ReplaysTrace found.0 found.1.0 found.1.1) io) is_input
+    (subst (λ (name : InputName). FromInput name console (ReplaysTrace request) io) is_input
     (record { source = source; known = known; does = done })))
     result holds
 
 -- The claim on each output, from the taker before the first line.
-abbrev pub Drawn : Charted → Traffic → Result Summary Fault → ReplayOutput → Type 0
-Drawn begun traffic result kind = OnDevices (SumsUp (Charts begun) (λ state. ran_out state.replay.progress) charted_text traffic) result
+abbrev pub Drawn : Settings → Charted → Traffic → Result Summary Fault → ReplayOutput → Type 0
+Drawn settings begun traffic result kind = OnDevices (SumsUp (Charts begun) (λ state. ran_out state.replay.progress) (charted_text settings) traffic) result
 
 abbrev pub Scripted : ScriptState → Traffic → Result Summary Fault → ReplayOutput → Type 0
 Scripted begun traffic result kind = OnDevices (Scripts (Writes begun) (λ state. ran_out state.progress) traffic) result
@@ -64,7 +64,7 @@ abbrev pub Swept : List ReplayState → Traffic → Result Summary Fault → Rep
 Swept begun traffic result kind = OnDevices (SumsUp (GroupReplays begun) any_ran_out (group_text kind) traffic) result
 
 abbrev pub Written : Settings → (others : List Policy) → Reading → Traffic → Result Summary Fault → ReplayOutput → Type 0
-Written settings others reading traffic result kind = OnDevices (ReplaysTrace kind settings (reading, others) traffic) result
+Written settings others reading traffic result kind = OnDevices (ReplaysEach kind settings others reading traffic) result
 
 -- A claim that follows for an output and a taker before the first line follows for an equal output and an equal taker.
 pub by_output : {S : Type 0} (P : S → ReplayOutput → Type 0) (Q : ReplayOutput → Type 0) (kind other : ReplayOutput) (taker begun : S) → kind ≡ other → taker ≡ begun

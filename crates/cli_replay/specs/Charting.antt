@@ -1,13 +1,6 @@
 -- The output of `replay --svg`: a chart of the heap of a trace over its events.
-use Rattle.std.specs.Prelude.{ℕ, Bool, ◌≡◌, ◌≢◌, ◌+◌, ◌++◌, codes, decimal, max, List, [], Option, Some, None, Result, Ok, Err}
-use Rattle.std.specs.Io.KnownBytes.{Appends}
+use Rattle.std.specs.Prelude.{ℕ, Bool, ◌≡◌, ◌+◌, ◌++◌, codes, decimal, max, List, Option, Some, Result, Ok}
 use Rattle.cc_bounds.specs.Align.{align_bytes}
-use Rattle.cc_io.specs.Correct.{Pumps}
-use Rattle.cc_io.specs.Devices.{TakesPrefix}
-use Rattle.cc_io.specs.Frames.{lines}
-use Rattle.cc_io.specs.declared.summary.IoError.{IoError}
-use Rattle.cc_io.specs.declared.summary.IoError.TheVariants.{Read, Write}
-use Rattle.cc_io.specs.declared.summary.Summary.{Summary}
 use Rattle.cc_draw.specs.declared.levels.Levels.{Levels}
 use Rattle.cc_draw.specs.Chart.{Chart, no_chart, with_event}
 use Rattle.cc_draw.specs.ChartDrawing.{chart_text}
@@ -18,14 +11,12 @@ use Rattle.cc_heap.specs.declared.settings.Settings.{Settings}
 use Rattle.cc_placer.specs.declared.event.Event.{Event}
 use Rattle.cc_word.specs.declared.refusal.Refusal.{Refusal}
 use Rattle.cc_replay.specs.PolicyText.{policy_text}
-use Rattle.cc_replay.specs.Replay.{ReplayState, TakesLine, TakesRest, begun, figures_of, most_sample, replaying}
+use Rattle.cc_replay.specs.Replay.{ReplayState, TakesLine, TakesRest, begun, figures_of, replaying}
 use Rattle.cc_replay.specs.Taking.{next_entry}
 use Rattle.cc_replay.specs.declared.reading.Progress.{Progress}
-use Rattle.cc_replay.specs.declared.reading.Progress.TheVariants.{Running, OutOfMemory}
+use Rattle.cc_replay.specs.declared.reading.Progress.TheVariants.{Running}
 use Rattle.cc_replay.specs.declared.reading.Reading.{Reading}
-use Rattle.cc_replay.specs.Reading.{is_over}
 use Rattle.cc_replay.specs.declared.summary.Figures.{Figures}
-use Rattle.cli.specs.Devices.{Traffic}
 
 -- A replay, and the chart of its heap.
 pub record Charted : Type 0 where
@@ -59,9 +50,9 @@ charted _ _ figures chart = chart
 abbrev pub caption_of : Settings → List ℕ
 caption_of settings = codes "policy " ++ policy_text settings.policy ++ codes ", alignment " ++ decimal (align_bytes settings.align)
 
--- The drawn chart of a replay.
-abbrev pub charted_text : Charted → List ℕ
-charted_text state = chart_text (caption_of state.replay.run.heap.settings) state.chart
+-- The drawn chart of a replay on a heap of these settings.
+abbrev pub charted_text : Settings → Charted → List ℕ
+charted_text settings state = chart_text (caption_of settings) state.chart
 
 -- ChartsLine holds if the line is taken, and the levels of its event, if it is one, join the chart.
 pub record ChartsLine (old : Charted) (line text : List ℕ) (is_error : Bool) (new : Charted) : Type 0 where

@@ -2,6 +2,7 @@
 use Rattle.std.specs.Prelude.{ℕ, ◌^◌, ◌==◌, nat_lt, codes, length, List, ◌++◌, ◌∷◌, [], Option, Some, None, Result, Ok, Err, zero, suc, if◌then◌else◌}
 use Rattle.std.specs.Borrow.{Bor}
 use Rattle.std.specs.Str.{bytes_eq}
+use Rattle.std.specs.Option.{ok_or}
 use Rattle.std.specs.List.{after_first, before_first, position_or_len, slice_split}
 use Rattle.clap.specs.Words.{Text}
 use Rattle.cc_word.specs.declared.refusal.Refusal.{Refusal}
@@ -22,6 +23,7 @@ use Rattle.cc_heap.specs.declared.settings.Settings.{Settings}
 use Rattle.cli.specs.declared.invocation.ReplayOutput.{ReplayOutput}
 use Rattle.cli.specs.declared.invocation.ReplayOutput.TheVariants.{Script, Series, Summary}
 use Rattle.cli.specs.declared.invocation.ReplayValues.{ReplayValues}
+use Rattle.cli_replay.specs.declared.replay_values.ReplayRequest.{ReplayRequest}
 use Rattle.cc_io.specs.CommandOutput.{changed}
 
 -- The names of policies: the parts of a text between its commas.
@@ -71,17 +73,15 @@ least_in None = Ok 0
 least_in (Some text) = address_in text.now
 
 -- The number, or `OutOfRange` if it is 0.
-abbrev pub not_zero : Result ℕ Refusal → Result ℕ Refusal
+abbrev pub not_zero : Result ℕ Refusal → Result (Option ℕ) Refusal
 not_zero (Ok zero) = Err OutOfRange
-not_zero (Ok (suc less)) = Ok (suc less)
+not_zero (Ok (suc less)) = Ok (Some (suc less))
 not_zero (Err refusal) = Err refusal
 
--- The output, and the number of events from one sample of a series to the next, or 0 without a series. No output means that
--- two were asked for.
-abbrev pub output_in : Option ReplayOutput → Result (ReplayOutput × ℕ) Refusal
-output_in None = Err Syntax
-output_in (Some (Series text)) = changed (λ each. (Series text, each)) (not_zero (address_in text.now))
-output_in (Some output) = Ok (output, 0)
+-- The number of events from one sample of a series to the next, if the output is a series.
+abbrev pub each_given : Option ReplayOutput → Result (Option ℕ) Refusal
+each_given (Some (Series text)) = not_zero (address_in text.now)
+each_given _ = Ok None
 
 -- The span of a base and a length with a colon between.
 abbrev pub span_in : (text : List ℕ) → Result Span Refusal
@@ -126,26 +126,30 @@ abbrev pub realloc_given : Option ReplayOutput → Option (Bor Text) → Result 
 realloc_given output None = Ok Move
 realloc_given output (Some text) = in_output output (realloc_named text.now)
 
--- The output, the settings of the heap with the first policy, and how the trace is read, or the first error. `Syntax` comes
--- first: a text is not a number, not a policy, not a pool or not one of the names, or two of `--sizes`, `--svg`, `--script`
--- and `--each` are given, or `--script` with `--realloc keep`. Then comes that a pool ends past 2^64, and then that a number
--- is out of range.
-abbrev pub first_replay_in : ReplayValues → Result (ReplayOutput × (Settings × Reading)) Refusal
-first_replay_in values =
+-- The settings of the heap with the first policy, or the first error.
+abbrev pub settings_in : ReplayValues → Result Settings Refusal
+settings_in values =
     changed
-    (λ found. (
-      found.1.0.0,
-      (
-        record { limit = 2 ^ 24; pool = found.1.1.0; align = values.align; policy = found.0.0; least_quarantine = found.0.1; realloc = found.1.1.1.1 },
-        record { format = found.1.1.1.0; is_strict = values.strict; each = found.1.0.1 },
-      ),
-    ))
-    (both (both (sweep_given values.sweep) (least_in values.least)) (both (output_in values.output) (both (span_given values.pool) (both (format_in values.format) (realloc_given values.output values.realloc)))))
+    (λ found. record {
+      limit = 2 ^ 24;
+      pool = found.1.0;
+      align = values.align;
+      policy = found.0.0;
+      least_quarantine = found.0.1;
+      realloc = found.1.1;
+    })
+    (both (both (sweep_given values.sweep) (least_in values.least)) (both (span_given values.pool) (realloc_given values.output values.realloc)))
 
--- The output, the settings of the first heap, how the trace is read, and the policies of the other heaps, or the first error, as
--- of one heap. It is `Syntax` too if there are several policies and the output is not the summary, and `OutOfRange` if there are
--- more than eight.
-abbrev pub replay_in : ReplayValues → Result (ReplayOutput × (Settings × (Reading × List Policy))) Refusal
+-- How the trace is read, or the first error.
+abbrev pub reading_in : ReplayValues → Result Reading Refusal
+reading_in values =
+    changed (λ found. record { format = found.0; is_strict = values.strict; each = found.1 }) (both (format_in values.format) (each_given values.output))
+
+-- The request of the values, or the first error. `Syntax` comes first: a text is not a number, not a policy, not a pool or not one of
+-- the names, or two of `--sizes`, `--svg`, `--script` and `--each` are given, or `--script` with `--realloc keep`, or several policies
+-- with another output than the summary. Then comes that a pool ends past 2^64, and then that a number is out of range, or that there
+-- are more than eight policies.
+abbrev pub replay_in : ReplayValues → Result ReplayRequest Refusal
 replay_in values =
-    changed (λ found. (found.0.0, (found.0.1.0, (found.0.1.1, found.1))))
-    (both (first_replay_in values) (others_given values.output values.sweep))
+    changed (λ found. record { output = found.0.0.0; settings = found.0.1; reading = found.0.0.1; others = found.1 })
+    (both (both (both (ok_or values.output Syntax) (reading_in values)) (settings_in values)) (others_given values.output values.sweep))

@@ -26,6 +26,7 @@ use Rattle.cli.specs.Devices.{Console, Traffic}
 use Rattle.cli_replay.specs.Charting.{Charted, ChartsLine, ChartsRest, begun_chart, charted_text}
 use Rattle.cli_replay.specs.Outputs.{Samples, Scripts, SumsUp, Taking}
 use Rattle.cli_replay.specs.ReplayValues.{replay_in}
+use Rattle.cli_replay.specs.declared.replay_values.ReplayRequest.{ReplayRequest}
 use Rattle.cc_io.specs.CommandOutput.{WritesRefusal}
 
 -- The format of a table.
@@ -72,17 +73,15 @@ Writes old = Pumps (λ state. is_over state.progress) ScriptsLine ScriptsRest li
 abbrev pub ReplaysEach : ReplayOutput → Settings → (others : List Policy) → Reading → Traffic → Result Summary IoError → Type 0
 ReplaysEach (output.Summary format) settings (policy ∷ policies) reading =
     SumsUp (GroupReplays (begun_group settings (policy ∷ policies) reading)) any_ran_out (group_text (output.Summary format))
-ReplaysEach output.Chart settings others reading = SumsUp (Charts (begun_chart settings reading)) (λ state. ran_out state.replay.progress) charted_text
+ReplaysEach output.Chart settings others reading = SumsUp (Charts (begun_chart settings reading)) (λ state. ran_out state.replay.progress) (charted_text settings)
 ReplaysEach output.Script settings others reading = Scripts (Writes (script_begun settings reading)) (λ state. ran_out state.progress)
 ReplaysEach (output.Series text) settings others reading =
     Samples (Replays (begun (empty_run settings) reading)) (λ state. ran_out state.progress) (replay_text (output.Series text))
 ReplaysEach table settings others reading = SumsUp (Replays (begun (empty_run settings) reading)) (λ state. ran_out state.progress) (replay_text table)
 
--- ReplaysTrace holds if the trace was replayed on a heap of these settings, and on one with each other policy, and this output of it
--- was written.
-abbrev pub ReplaysTrace : ReplayOutput → Settings → (reading_and_others : Reading × List Policy) → Traffic → Result Summary IoError → Type 0
-ReplaysTrace output settings reading_and_others traffic result =
-    ReplaysEach output settings reading_and_others.1 reading_and_others.0 traffic result
+-- ReplaysTrace holds if the trace was replayed as the request says, and the requested output was written.
+abbrev pub ReplaysTrace : ReplayRequest → Traffic → Result Summary IoError → Type 0
+ReplaysTrace request traffic result = ReplaysEach request.output request.settings request.others request.reading traffic result
 
 -- IsStreaming holds if the output is written while the trace is read: a script or a series.
 abbrev pub IsStreaming : Option ReplayOutput → Type 0
@@ -90,9 +89,8 @@ IsStreaming (Some output.Script) = ⊤
 IsStreaming (Some (output.Series text)) = ⊤
 IsStreaming _ = ⊥
 
--- WithReplay holds if `Does` holds for the output, the settings and the reading of a replay, or if one of their values is refused.
-abbrev pub WithReplay : ReplayValues → Console → (Does : ReplayOutput → Settings → Reading × List Policy → Result Summary IoError → Type 0)
-    → Result Summary IoError → Type 0
+-- WithReplay holds if `Does` holds for the request of the values, or if one of them is refused.
+abbrev pub WithReplay : ReplayValues → Console → (Does : ReplayRequest → Result Summary IoError → Type 0) → Result Summary IoError → Type 0
 WithReplay values console Does result =
-    MatchResult (replay_in values) (λ found. Does found.0 found.1.0 found.1.1 result)
+    MatchResult (replay_in values) (λ request. Does request result)
     (λ refusal. WritesRefusal console.output console.output_now refusal result)

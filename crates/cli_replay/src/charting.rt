@@ -16,12 +16,12 @@ ghost use Rattle.cli_replay.specs.Charting.{
 ghost use Rattle.cli_replay.specs.Replaying.{Charts};
 ghost use Rattle.cli_replay.specs.Settings.{IsForHeap};
 
+use crate::replay_values::ReplayRequest;
 use crate::takers::{TracePrinter, TraceTaker, ran_out};
 use cc_draw::{Chart, Levels, write_chart};
 use cc_io::{Answerer, IoError, Line, Lines, Page, Pending, Sink, Source, Summary, pump};
 use cc_placer::Placer;
-use cc_replay::{Entry, Figures, MOST_SAMPLE, Policy, Reading, Replay, Settings, push_policy};
-use cli::ReplayOutput;
+use cc_replay::{Entry, Figures, MOST_SAMPLE, Replay, Settings, push_policy};
 use std::alloc::{AllocError, Global};
 use std::marker::Model;
 
@@ -111,7 +111,7 @@ impl<P: Placer, const N: usize> Answerer<N> for Charting<P> {
 impl<P: Placer> TraceTaker for Charting<P> {
     ghost IsFor = { IsForHeap };
 
-    ghost begun = { λ settings others reading. begun_chart settings reading };
+    ghost begun = { λ request. begun_chart request.settings request.reading };
 
     ghost Takes = { Charts };
 
@@ -119,14 +119,9 @@ impl<P: Placer> TraceTaker for Charting<P> {
 
     ghost ran_out = { λ charting. ran_out charting.replay.progress };
 
-    fn begin(
-        alloc: Global,
-        settings: Settings,
-        _others: &[Policy],
-        reading: Reading,
-    ) -> Result<Self, AllocError> {
+    fn begin(alloc: Global, request: &ReplayRequest<'_>) -> Result<Self, AllocError> {
         Ok(Charting {
-            replay: Replay::with_settings(alloc, settings, reading)?,
+            replay: Replay::with_settings(alloc, request.settings, request.reading)?,
             chart: Chart::new(),
         })
     }
@@ -146,10 +141,10 @@ impl<P: Placer> TraceTaker for Charting<P> {
 }
 
 impl<P: Placer> TracePrinter for Charting<P> {
-    ghost text = { λ _. charted_text };
+    ghost text = { λ request. charted_text request.settings };
 
-    fn write_end<W: Sink>(&self, _output: ReplayOutput<'_>, sink: &mut W) -> Result<(), IoError> {
-        let caption = caption_of(self.replay.settings());
+    fn write_end<W: Sink>(&self, request: &ReplayRequest<'_>, sink: &mut W) -> Result<(), IoError> {
+        let caption = caption_of(request.settings);
         write_chart(&self.chart, caption.bytes(), sink)
     }
 }

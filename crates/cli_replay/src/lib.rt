@@ -9,5 +9,6 @@ mod replaying;
 mod takers;
 
 pub use memory::TraceMemory;
+pub use replay_values::{Policies, ReplayRequest};
 pub use replaying::replay_file;
 pub use takers::{TracePrinter, TraceTaker};

@@ -1,15 +1,12 @@
 //! The memory of a trace that is replayed.
-ghost use Rattle.std.specs.Prelude.{◌≡◌, ◌≤◌, ◌↔◌, Err, IfOk, IsErr, MatchResult, OnErr, OnOk, false, is_ok, length};
-ghost use Rattle.std.specs.Prelude.{true};
+ghost use Rattle.std.specs.Prelude.{◌≡◌, ◌↔◌, IfOk, MatchResult, false, is_err, is_ok, true};
 ghost use Rattle.clap.specs.Words.{FailsBy, kind_of};
-ghost use Rattle.cc_io.specs.Devices.{IsOutcome};
 ghost use Rattle.cli.specs.Invocation.{kinds_in, value_fault};
 ghost use Rattle.cli_replay.specs.ReplayValues.{replay_in};
 
 use crate::mistakes::check_values;
+use crate::replay_values::ReplayRequest;
 use crate::takers::TraceTaker;
-use cc_io::{IoError, Sink, Source, Summary};
-use cc_replay::{Policy, Reading, Settings};
 use clap::Error;
 use clap::error::ErrorKind;
 use cli::{GlobalMemory, Memory, ReplayValues};
@@ -31,35 +28,18 @@ pub trait TraceMemory: Memory {
     /// Creates a taker of a trace before its first line, as [`TraceTaker::begin`] does.
     ///
     /// Errors: an allocation fails.
-    fn begin<T: TraceTaker>(
-        &mut self,
-        settings: Settings,
-        others: &[Policy],
-        reading: Reading,
-    ) -> Result<T, AllocError>
-        requires settings { T.IsFor settings }
-        requires few { length others.now ≤ 7 }
-        ensures begins { IfOk result (λ taker. taker ≡ T.begun settings others.now reading) }
+    fn begin<T: TraceTaker>(&mut self, request: &ReplayRequest<'_>) -> Result<T, AllocError>
+        requires settings { T.IsFor request.now.settings }
+        ensures begins { IfOk result (λ taker. taker ≡ T.begun request.now) }
         ensures goes_on { IfOk result (λ taker. T.is_over taker ≡ false) }
-        ensures fails { IsErr result ↔ (Self.has_failed self.new ≡ true) };
+        ensures fails { Self.has_failed self.new ≡ is_err result };
 
-    /// Has a taker take the lines that the source gives, as [`TraceTaker::take`] does.
+    /// Fails if memory ran out in an event.
     ///
-    /// Errors: `Read` if and only if the source failed, and `Write` if and only if the sink failed.
-    fn take<T: TraceTaker, S: Source, W: Sink>(
-        &mut self,
-        taker: &mut T,
-        source: &mut S,
-        sink: &mut W,
-    ) -> Result<Summary, IoError>
-        requires source { (S.state source.old).has_failed ≡ false }
-        requires sink { (W.state sink.old).has_failed ≡ false }
-        requires goes_on { T.is_over taker.old ≡ false }
-        ensures takes { T.Takes taker.old (S.state source.old).unread (S.state source.new).unread
-            (W.state sink.old).taken (W.state sink.new).taken result taker.new }
-        ensures outcome { IsOutcome (S.state source.new) (W.state sink.new) result }
-        ensures fails { OnOk result ((T.ran_out taker.new ≡ true) ↔ (Self.has_failed self.new ≡ true)) }
-        ensures stopped { OnErr result (Self.has_failed self.new ≡ false) };
+    /// Errors: it did.
+    fn fail_if(&mut self, has_run_out: bool) -> Result<(), AllocError>
+        ensures runs_out { is_err result ≡ has_run_out }
+        ensures fails { Self.has_failed self.new ≡ has_run_out };
 }
 
 impl TraceMemory for GlobalMemory {
@@ -72,25 +52,14 @@ impl TraceMemory for GlobalMemory {
         checked
     }
 
-    fn begin<T: TraceTaker>(
-        &mut self,
-        settings: Settings,
-        others: &[Policy],
-        reading: Reading,
-    ) -> Result<T, AllocError> {
-        let taker = T::begin(self.alloc, settings, others, reading);
+    fn begin<T: TraceTaker>(&mut self, request: &ReplayRequest<'_>) -> Result<T, AllocError> {
+        let taker = T::begin(self.alloc, request);
         self.has_failed = taker.is_err();
         taker
     }
 
-    fn take<T: TraceTaker, S: Source, W: Sink>(
-        &mut self,
-        taker: &mut T,
-        source: &mut S,
-        sink: &mut W,
-    ) -> Result<Summary, IoError> {
-        let result = taker.take(source, sink);
-        self.has_failed = result.is_ok() && taker.has_run_out();
-        result
+    fn fail_if(&mut self, has_run_out: bool) -> Result<(), AllocError> {
+        self.has_failed = has_run_out;
+        if has_run_out { Err(AllocError) } else { Ok(()) }
     }
 }

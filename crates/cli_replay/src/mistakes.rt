@@ -5,7 +5,7 @@ ghost use Rattle.cli.specs.Invocation.{kinds_in, value_fault};
 ghost use Rattle.cli_replay.specs.ReplayValues.{replay_in};
 
 use crate::replay_values::{
-    format_of, least_of, others_of, output_of, policy_of, pool_of, realloc_of, replay_of,
+    each_of, format_of, least_of, others_of, policy_of, pool_of, realloc_of, replay_of,
 };
 use clap::error::ErrorKind;
 use clap::{Command, Error};
@@ -66,7 +66,7 @@ fn wrong_value<'a>(values: ReplayValues<'a>) -> Option<WrongValue<'a>> {
             "format <FORMAT>",
             "want own, mtrace, heaptrack or ltrace",
         )
-    } else if realloc_of(None, values.realloc).is_err() {
+    } else if realloc_of(summary, values.realloc).is_err() {
         wrong(values.realloc, "realloc <MODE>", "want move or keep")
     } else if policy_of(values.sweep).is_err() || others_of(summary, values.sweep).is_err() {
         wrong(
@@ -87,7 +87,7 @@ fn wrong_value<'a>(values: ReplayValues<'a>) -> Option<WrongValue<'a>> {
             "pool <BASE:LENGTH>",
             "want an address, a colon and a length, which together are at most 2^64",
         )
-    } else if each.is_some() && output_of(values.output).is_err() {
+    } else if each_of(values.output).is_err() {
         wrong(
             each,
             "each <N>",

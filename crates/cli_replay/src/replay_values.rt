@@ -1,12 +1,12 @@
 //! The heap and the reading that the arguments of `replay` request.
-ghost use Rattle.std.specs.Prelude.{◌≡◌, ◌≤◌, ◌^◌, [], length, Err, IfOk, MatchResult, Ok, Some};
+ghost use Rattle.std.specs.Prelude.{◌≡◌, ◌≤◌, [], length, Err, IfOk, MatchResult, Ok, Some};
 ghost use Rattle.cc_replay.specs.PolicyText.{policy_in};
 ghost use Rattle.cc_bounds.specs.Span.{IsSpan};
 ghost use Rattle.cli.specs.declared.invocation.ReplayOutput.TheVariants.{Script};
 ghost use Rattle.cc_heap.specs.declared.reallocation.Reallocation.TheVariants.{Move};
 ghost use Rattle.cli_replay.specs.ReplayValues.{
+  each_given,
   first_policy,
-  first_replay_in,
   format_in,
   trace_format_named,
   in_output,
@@ -14,16 +14,18 @@ ghost use Rattle.cli_replay.specs.ReplayValues.{
   least_in,
   one_more,
   others_given,
-  output_in,
   pieces_of,
   policies_after,
+  reading_in,
   realloc_given,
   realloc_named,
   replay_in,
+  settings_in,
   span_given,
   span_in,
   sweep_given,
 };
+ghost use Rattle.cli_replay.specs.Settings.{IsForHeap};
 
 use cc_bounds::Span;
 use cc_replay::{Policy, Reading, Reallocation, Settings, Share, TraceFormat, read_policy};
@@ -45,9 +47,22 @@ const ALL_ABOVE: Span = Span {
     top: 1 << 64,
 };
 
-/// The policies after the first.
+/// The request of the values of `replay`.
 #[derive(Drop)]
-pub(crate) struct Policies {
+pub struct ReplayRequest<'a> {
+    /// The output.
+    pub output: ReplayOutput<'a>,
+    /// The settings of the heap with the first policy.
+    pub settings: Settings,
+    /// How the trace is read.
+    pub reading: Reading,
+    /// The policies of the other heaps.
+    pub others: Policies,
+}
+
+/// At most seven policies.
+#[derive(Drop)]
+pub struct Policies {
     policies: [Policy; MOST_OTHERS],
     len: usize,
 }
@@ -75,7 +90,7 @@ impl Policies {
     }
 
     /// Returns the policies.
-    pub(crate) fn as_slice(&self) -> &[Policy]
+    pub fn as_slice(&self) -> &[Policy]
         ensures value { result.now ≡ self.now }
         ensures few { length result.now ≤ 7 }
     {
@@ -97,24 +112,28 @@ impl Policies {
     }
 }
 
-/// Returns the output, the settings of the heap with the first policy, how the trace is read, and the other
-/// policies.
+/// Returns the request of the values.
 ///
-/// Errors, in order: as of one policy; `Syntax` also if there are several and the output is not the summary, and
-/// `OutOfRange` if there are more than eight.
-pub(crate) fn replay_of<'a>(
-    values: ReplayValues<'a>,
-) -> Result<(ReplayOutput<'a>, (Settings, (Reading, Policies))), Refusal>
+/// Errors, in order: `Syntax` if a text is not a number, not a policy, not a pool or not one of the names, if two of
+/// `--sizes`, `--svg`, `--script` and `--each` are given, or `--script` with `--realloc keep`, or several policies
+/// with another output than the summary; `OutOfBounds` if the pool ends past 2^64; `OutOfRange` if a number is too
+/// large, the number of `--each` is 0, or there are more than eight policies.
+pub(crate) fn replay_of<'a>(values: ReplayValues<'a>) -> Result<ReplayRequest<'a>, Refusal>
     ensures value { result ≡ replay_in values.entry }
-    ensures output { IfOk result (λ found. values.entry.output ≡ Some found.0) }
-    ensures limit { IfOk result (λ found. found.1.0.limit ≡ 2 ^ 24) }
-    ensures pool { IfOk result (λ found. IsSpan found.1.0.pool) }
-    ensures moves { values.entry.output ≡ Some Script → IfOk result (λ found. found.1.0.realloc ≡ Move) }
+    ensures output { IfOk result (λ request. values.entry.output ≡ Some request.output) }
+    ensures settings { IfOk result (λ request. IsForHeap request.settings) }
+    ensures moves { values.entry.output ≡ Some Script → IfOk result (λ request. request.settings.realloc ≡ Move) }
 {
     let others = others_of(values.output, values.sweep);
-    match first_replay_of(values) {
-        Ok((output, (settings, reading))) => match others {
-            Ok(others) => Ok((output, (settings, (reading, others)))),
+    let trace = both(values.output.ok_or(Refusal::Syntax), reading_of(values));
+    match both(trace, settings_of(values)) {
+        Ok(((output, reading), settings)) => match others {
+            Ok(others) => Ok(ReplayRequest {
+                output,
+                settings,
+                reading,
+                others,
+            }),
             Err(refusal) => Err(refusal),
         },
         Err(Refusal::Syntax) => Err(Refusal::Syntax),
@@ -122,6 +141,44 @@ pub(crate) fn replay_of<'a>(
             Ok(_) => Err(refusal),
             Err(other) => Err(other),
         },
+    }
+}
+
+/// Returns the settings of the heap with the first policy.
+fn settings_of(values: ReplayValues<'_>) -> Result<Settings, Refusal>
+    ensures value { result ≡ settings_in values.entry }
+    ensures settings { IfOk result IsForHeap }
+    ensures moves { values.entry.output ≡ Some Script → IfOk result (λ settings. settings.realloc ≡ Move) }
+{
+    let placing = both(
+        pool_of(values.pool),
+        realloc_of(values.output, values.realloc),
+    );
+    let sweeping = both(policy_of(values.sweep), least_of(values.least));
+    match both(sweeping, placing) {
+        Ok(((policy, least_quarantine), (pool, realloc))) => Ok(Settings {
+            limit: MOST_HELD,
+            pool,
+            align: values.align,
+            policy,
+            least_quarantine,
+            realloc,
+        }),
+        Err(refusal) => Err(refusal),
+    }
+}
+
+/// Returns how the trace is read.
+fn reading_of(values: ReplayValues<'_>) -> Result<Reading, Refusal>
+    ensures { result ≡ reading_in values.entry }
+{
+    match both(format_of(values.format), each_of(values.output)) {
+        Ok((format, each)) => Ok(Reading {
+            format,
+            is_strict: values.strict,
+            each,
+        }),
+        Err(refusal) => Err(refusal),
     }
 }
 
@@ -168,50 +225,6 @@ fn read_policies(text: &[u8]) -> Result<Policies, Refusal>
     Ok(policies)
 }
 
-/// Returns the output, the settings of the heap with the first policy, and how the trace is read.
-///
-/// Errors, in order: `Syntax` if a text is not a number, not a policy, not a pool or not one of the names,
-/// if two of `--sizes`, `--svg`, `--script` and `--each` are given, or `--script` with `--realloc keep`;
-/// `OutOfBounds` if the pool ends past 2^64; `OutOfRange` if a number is too large, or the number of `--each`
-/// is 0.
-fn first_replay_of<'a>(
-    values: ReplayValues<'a>,
-) -> Result<(ReplayOutput<'a>, (Settings, Reading)), Refusal>
-    ensures value { result ≡ first_replay_in values.entry }
-    ensures output { IfOk result (λ found. values.entry.output ≡ Some found.0) }
-    ensures limit { IfOk result (λ found. found.1.0.limit ≡ 2 ^ 24) }
-    ensures pool { IfOk result (λ found. IsSpan found.1.0.pool) }
-    ensures moves { values.entry.output ≡ Some Script → IfOk result (λ found. found.1.0.realloc ≡ Move) }
-{
-    let sweeping = both(policy_of(values.sweep), least_of(values.least));
-    let naming = both(
-        format_of(values.format),
-        realloc_of(values.output, values.realloc),
-    );
-    let placing = both(pool_of(values.pool), naming);
-    match both(sweeping, both(output_of(values.output), placing)) {
-        Ok(((policy, least_quarantine), ((output, each), (pool, (format, realloc))))) => Ok((
-            output,
-            (
-                Settings {
-                    limit: MOST_HELD,
-                    pool,
-                    align: values.align,
-                    policy,
-                    least_quarantine,
-                    realloc,
-                },
-                Reading {
-                    format,
-                    is_strict: values.strict,
-                    each,
-                },
-            ),
-        )),
-        Err(refusal) => Err(refusal),
-    }
-}
-
 /// Returns the policy that `--sweep` names first, or 25 percent of the held bytes.
 pub(crate) fn policy_of(text: Option<&str>) -> Result<Policy, Refusal>
     ensures { result ≡ sweep_given text.entry }
@@ -245,20 +258,17 @@ pub(crate) fn least_of(text: Option<&str>) -> Result<u64, Refusal>
     }
 }
 
-/// Returns the output, and the number of events from one sample of a series to the next, or 0 without a series.
-pub(crate) fn output_of<'a>(
-    output: Option<ReplayOutput<'a>>,
-) -> Result<(ReplayOutput<'a>, u64), Refusal>
-    ensures { result ≡ output_in output.entry }
+/// Returns the number of events from one sample of a series to the next, if the output is a series.
+pub(crate) fn each_of(output: Option<ReplayOutput<'_>>) -> Result<Option<u64>, Refusal>
+    ensures { result ≡ each_given output.entry }
 {
     match output {
-        None => Err(Refusal::Syntax),
         Some(ReplayOutput::Series(text)) => match read_address(text.as_bytes()) {
             Ok(0) => Err(Refusal::OutOfRange),
-            Ok(each) => Ok((ReplayOutput::Series(text), each)),
+            Ok(each) => Ok(Some(each)),
             Err(refusal) => Err(refusal),
         },
-        Some(output) => Ok((output, 0)),
+        _ => Ok(None),
     }
 }
 

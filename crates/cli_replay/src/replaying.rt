@@ -1,5 +1,5 @@
 //! `replay`: the call for the trace of an allocator.
-ghost use Rattle.std.specs.Prelude.{◌≡◌, ◌≤◌, ◌↔◌, Some, false, length, true, Err, IsOk};
+ghost use Rattle.std.specs.Prelude.{◌≡◌, ◌↔◌, Some, false, true, Err, IsOk};
 ghost use Rattle.cc_heap.specs.declared.reallocation.Reallocation.TheVariants.{Move};
 ghost use Rattle.cli.specs.Devices.{FromInput, IsEnd, OnOutput};
 ghost use Rattle.cli.specs.Input.{IsFile, file_input, trace_content};
@@ -11,11 +11,11 @@ ghost use Rattle.cli_replay.specs.Settings.{IsForHeap};
 
 use crate::charting::Charting;
 use crate::memory::TraceMemory;
-use crate::replay_values::replay_of;
+use crate::replay_values::{ReplayRequest, replay_of};
 use crate::takers::{TracePrinter, TraceTaker};
 use cc_io::{Sink, Source, Summary, write_refusal};
 use cc_machine::GapPlacer;
-use cc_replay::{Policy, Reading, Replay, ReplayGroup, Script, Settings};
+use cc_replay::{Replay, ReplayGroup, Script};
 use cli::{Content, Discard, Fault, Inputs, ReplayOutput, ReplayValues, file_input};
 
 /// Replays the trace that FILE names on a heap with exact bounds, and writes its output: the summary, or in
@@ -47,8 +47,7 @@ pub fn replay_file<M: TraceMemory, I: Inputs, W: Sink>(
     requires sink { (W.state sink.old).has_failed ≡ false }
     ensures replays { OnOutput (I.bytes_of inputs.old) (I.Opened.state source.new) (W.state sink.old) (W.state sink.new)
         (λ console. WithReplay values.entry console
-        (λ output settings plan. FromInput (file_input file.entry) console
-        (ReplaysTrace output settings plan))) result }
+        (λ request. FromInput (file_input file.entry) console (ReplaysTrace request))) result }
     ensures memory { result ≡ Err Fault.Memory → IsOk (replay_in values.entry) }
     ensures open { result ≡ Err Fault.Open → IsFile (file_input file.entry) }
     ensures starved { ¬ IsStreaming values.entry.output → result ≡ Err Fault.Memory
@@ -62,17 +61,9 @@ pub fn replay_file<M: TraceMemory, I: Inputs, W: Sink>(
         result }
 {
     match replay_of(values) {
-        Ok((output, (settings, (reading, others)))) => {
-            inputs.open(file_input(file), content_of(output), source)?;
-            replay_source(
-                memory,
-                output,
-                settings,
-                others.as_slice(),
-                reading,
-                source,
-                sink,
-            )
+        Ok(request) => {
+            inputs.open(file_input(file), content_of(request.output), source)?;
+            replay_source(memory, &request, source, sink)
         }
         Err(refusal) => Ok(write_refusal(refusal, sink)?),
     }
@@ -93,49 +84,45 @@ fn content_of(output: ReplayOutput<'_>) -> Content
 #[inline(never)]
 fn replay_source<M: TraceMemory, S: Source, W: Sink>(
     memory: &mut M,
-    output: ReplayOutput<'_>,
-    settings: Settings,
-    others: &[Policy],
-    reading: Reading,
+    request: &ReplayRequest<'_>,
     source: &mut S,
     sink: &mut W,
 ) -> Result<Summary, Fault>
-    requires settings { IsForHeap settings }
-    requires moves { output ≡ ScriptOutput → settings.realloc ≡ Move }
-    requires few { length others.now ≤ 7 }
+    requires settings { IsForHeap request.now.settings }
+    requires moves { request.now.output ≡ ScriptOutput → request.now.settings.realloc ≡ Move }
     requires source { (S.state source.old).has_failed ≡ false }
     requires sink { (W.state sink.old).has_failed ≡ false }
     ensures replays { OnStreams (S.state source.old) (S.state source.new) (W.state sink.old) (W.state sink.new)
-        (ReplaysTrace output.entry settings (reading, others.now)) result }
-    ensures starved { ¬ IsStreaming (Some output.entry) → result ≡ Err Fault.Memory
+        (ReplaysTrace request.now) result }
+    ensures starved { ¬ IsStreaming (Some request.now.output) → result ≡ Err Fault.Memory
         → (W.state sink.new).taken ≡ (W.state sink.old).taken }
     ensures allocates { (result ≡ Err Fault.Memory) ↔ (M.has_failed memory.new ≡ true) }
     ensures end { IsEnd false (S.state source.new) (W.state sink.old) (W.state sink.new) result }
 {
-    match output {
+    match request.output {
         ReplayOutput::Chart => {
-            let mut charting: Charting<GapPlacer> = memory.begin(settings, others, reading)?;
-            sum_up(memory, &mut charting, output, source, sink)
+            let mut charting: Charting<GapPlacer> = memory.begin(request)?;
+            sum_up(memory, &mut charting, request, source, sink)
         }
         ReplayOutput::Script => {
-            let mut script: Script<GapPlacer> = memory.begin(settings, others, reading)?;
+            let mut script: Script<GapPlacer> = memory.begin(request)?;
             write_script(memory, &mut script, source, sink)
         }
         ReplayOutput::Series(_) => {
-            let mut replay: Replay<GapPlacer> = memory.begin(settings, others, reading)?;
-            write_series(memory, &mut replay, output, source, sink)
+            let mut replay: Replay<GapPlacer> = memory.begin(request)?;
+            write_series(memory, &mut replay, request, source, sink)
         }
         ReplayOutput::Sizes(_) => {
-            let mut replay: Replay<GapPlacer> = memory.begin(settings, others, reading)?;
-            sum_up(memory, &mut replay, output, source, sink)
+            let mut replay: Replay<GapPlacer> = memory.begin(request)?;
+            sum_up(memory, &mut replay, request, source, sink)
         }
         ReplayOutput::Summary(_) => {
-            if others.is_empty() {
-                let mut replay: Replay<GapPlacer> = memory.begin(settings, others, reading)?;
-                return sum_up(memory, &mut replay, output, source, sink);
+            if request.others.as_slice().is_empty() {
+                let mut replay: Replay<GapPlacer> = memory.begin(request)?;
+                return sum_up(memory, &mut replay, request, source, sink);
             }
-            let mut group: ReplayGroup<GapPlacer> = memory.begin(settings, others, reading)?;
-            sum_up(memory, &mut group, output, source, sink)
+            let mut group: ReplayGroup<GapPlacer> = memory.begin(request)?;
+            sum_up(memory, &mut group, request, source, sink)
         }
     }
 }
@@ -144,24 +131,23 @@ fn replay_source<M: TraceMemory, S: Source, W: Sink>(
 fn sum_up<T: TracePrinter, M: TraceMemory, S: Source, W: Sink>(
     memory: &mut M,
     taker: &mut T,
-    output: ReplayOutput<'_>,
+    request: &ReplayRequest<'_>,
     source: &mut S,
     sink: &mut W,
 ) -> Result<Summary, Fault>
+    requires memory { M.has_failed memory.old ≡ false }
     requires goes_on { T.is_over taker.old ≡ false }
     requires source { (S.state source.old).has_failed ≡ false }
     requires sink { (W.state sink.old).has_failed ≡ false }
     ensures sums_up { OnStreams (S.state source.old) (S.state source.new) (W.state sink.old) (W.state sink.new)
-        (SumsUp (T.Takes taker.old) T.ran_out (T.text output.entry)) result }
+        (SumsUp (T.Takes taker.old) T.ran_out (T.text request.now)) result }
     ensures starved { result ≡ Err Fault.Memory → (W.state sink.new).taken ≡ (W.state sink.old).taken }
     ensures allocates { (result ≡ Err Fault.Memory) ↔ (M.has_failed memory.new ≡ true) }
     ensures end { IsEnd false (S.state source.new) (W.state sink.old) (W.state sink.new) result }
 {
-    let summary = memory.take(taker, source, &mut Discard)?;
-    if taker.has_run_out() {
-        return Err(Fault::Memory);
-    }
-    taker.write_end(output, sink)?;
+    let summary = taker.take(source, &mut Discard)?;
+    memory.fail_if(taker.has_run_out())?;
+    taker.write_end(request, sink)?;
     Ok(summary)
 }
 
@@ -169,23 +155,22 @@ fn sum_up<T: TracePrinter, M: TraceMemory, S: Source, W: Sink>(
 fn write_series<T: TracePrinter, M: TraceMemory, S: Source, W: Sink>(
     memory: &mut M,
     taker: &mut T,
-    output: ReplayOutput<'_>,
+    request: &ReplayRequest<'_>,
     source: &mut S,
     sink: &mut W,
 ) -> Result<Summary, Fault>
+    requires memory { M.has_failed memory.old ≡ false }
     requires goes_on { T.is_over taker.old ≡ false }
     requires source { (S.state source.old).has_failed ≡ false }
     requires sink { (W.state sink.old).has_failed ≡ false }
     ensures samples { OnStreams (S.state source.old) (S.state source.new) (W.state sink.old) (W.state sink.new)
-        (Samples (T.Takes taker.old) T.ran_out (T.text output.entry)) result }
+        (Samples (T.Takes taker.old) T.ran_out (T.text request.now)) result }
     ensures allocates { (result ≡ Err Fault.Memory) ↔ (M.has_failed memory.new ≡ true) }
     ensures end { IsEnd false (S.state source.new) (W.state sink.old) (W.state sink.new) result }
 {
-    let summary = memory.take(taker, source, sink)?;
-    if taker.has_run_out() {
-        return Err(Fault::Memory);
-    }
-    taker.write_end(output, sink)?;
+    let summary = taker.take(source, sink)?;
+    memory.fail_if(taker.has_run_out())?;
+    taker.write_end(request, sink)?;
     Ok(summary)
 }
 
@@ -196,6 +181,7 @@ fn write_script<T: TraceTaker, M: TraceMemory, S: Source, W: Sink>(
     source: &mut S,
     sink: &mut W,
 ) -> Result<Summary, Fault>
+    requires memory { M.has_failed memory.old ≡ false }
     requires goes_on { T.is_over taker.old ≡ false }
     requires source { (S.state source.old).has_failed ≡ false }
     requires sink { (W.state sink.old).has_failed ≡ false }
@@ -204,9 +190,7 @@ fn write_script<T: TraceTaker, M: TraceMemory, S: Source, W: Sink>(
     ensures allocates { (result ≡ Err Fault.Memory) ↔ (M.has_failed memory.new ≡ true) }
     ensures end { IsEnd false (S.state source.new) (W.state sink.old) (W.state sink.new) result }
 {
-    let summary = memory.take(taker, source, sink)?;
-    if taker.has_run_out() {
-        return Err(Fault::Memory);
-    }
+    let summary = taker.take(source, sink)?;
+    memory.fail_if(taker.has_run_out())?;
     Ok(summary)
 }

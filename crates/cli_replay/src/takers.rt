@@ -1,26 +1,25 @@
 //! Takers of the lines of a trace.
-ghost use Rattle.std.specs.Prelude.{◌≡◌, ◌≤◌, ℕ, Bool, List, Option, Result, IfOk, Err, OnErr, false, length};
+ghost use Rattle.std.specs.Prelude.{◌≡◌, ℕ, Bool, List, Option, Result, IfOk, Err, OnErr, false};
 ghost use Rattle.cc_io.specs.Devices.{IsOutcome, SendsBytes};
 ghost use Rattle.cc_io.specs.declared.summary.IoError.{IoError as IoErrorSpec};
 ghost use Rattle.cc_io.specs.declared.summary.Summary.{Summary as SummarySpec};
 ghost use Rattle.cc_replay.specs.Reading.{is_over};
-ghost use Rattle.cc_replay.specs.declared.reading.Reading.{Reading as ReadingSpec};
-ghost use Rattle.cc_heap.specs.declared.policy.Policy.{Policy as PolicySpec};
 ghost use Rattle.cc_heap.specs.declared.settings.Settings.{Settings as SettingsSpec};
 ghost use Rattle.cc_heap.specs.Lost.{empty_run};
 ghost use Rattle.cc_replay.specs.Group.{any_ran_out, are_over, begun_group, ran_out};
 ghost use Rattle.cc_replay.specs.Replay.{begun};
 ghost use Rattle.cc_replay.specs.Script.{script_begun};
-ghost use Rattle.cli.specs.declared.invocation.ReplayOutput.{ReplayOutput as OutputSpec};
 ghost use Rattle.cli_replay.specs.Replaying.{GroupReplays, Replays, Writes};
 ghost use Rattle.cli_replay.specs.Replaying.{format_of, group_text, replay_text, table_format};
 ghost use Rattle.cli_replay.specs.Settings.{IsForHeap, IsForScript};
+ghost use Rattle.cli_replay.specs.declared.replay_values.ReplayRequest.{ReplayRequest as RequestSpec};
 
+use crate::replay_values::ReplayRequest;
 use cc_io::{IoError, Lines, Pending, Sink, Source, Summary, pump};
 use cc_placer::Placer;
 use cc_replay::{
-    Format, Policy, Progress, Reading, Replay, ReplayGroup, Script, Settings, replay_trace,
-    script_trace, write_sizes, write_summary,
+    Format, Progress, Replay, ReplayGroup, Script, replay_trace, script_trace, write_sizes,
+    write_summary,
 };
 use cli::{ReplayOutput, SummaryFormat};
 use std::alloc::{AllocError, Global};
@@ -30,8 +29,8 @@ pub trait TraceTaker: Drop {
     // A heap can have these settings.
     ghost IsFor: { SettingsSpec → Type 0 };
 
-    // The taker before the first line of a trace, with a heap for the settings and for each other policy.
-    ghost begun: { SettingsSpec → List PolicySpec → ReadingSpec → Self };
+    // The taker before the first line of a trace, with the requested heap or heaps.
+    ghost begun: { RequestSpec → Self };
 
     // The taker took the lines that a source gave, as `Taking` says.
     ghost Takes: { Self → Option (List ℕ) → Option (List ℕ) → Option (List ℕ) → Option (List ℕ)
@@ -45,17 +44,10 @@ pub trait TraceTaker: Drop {
 
     /// Creates a taker before the first line of a trace.
     ///
-    /// Requires: at most 7 other policies.
     /// Errors: `AllocError` if an allocation fails.
-    fn begin(
-        alloc: Global,
-        settings: Settings,
-        others: &[Policy],
-        reading: Reading,
-    ) -> Result<Self, AllocError>
-        requires settings { IsFor settings }
-        requires few { length others.now ≤ 7 }
-        ensures begins { IfOk result (λ taker. taker ≡ begun settings others.now reading) }
+    fn begin(alloc: Global, request: &ReplayRequest<'_>) -> Result<Self, AllocError>
+        requires settings { IsFor request.now.settings }
+        ensures begins { IfOk result (λ taker. taker ≡ begun request.now) }
         ensures goes_on { IfOk result (λ taker. is_over taker ≡ false) };
 
     /// Takes the lines that the source gives, and writes to the sink what it writes while lines are taken.
@@ -77,23 +69,23 @@ pub trait TraceTaker: Drop {
 
 /// A taker of a trace that has a text at the end.
 pub trait TracePrinter: TraceTaker {
-    // The text at the end, for an output.
-    ghost text: { OutputSpec → Self → List ℕ };
+    // The text at the end.
+    ghost text: { RequestSpec → Self → List ℕ };
 
     /// Writes the text at the end, and flushes the sink.
     ///
     /// Requires: the sink has not failed.
     /// Errors: `Write` if the sink fails. A prefix of the text is then written.
-    fn write_end<W: Sink>(&self, output: ReplayOutput<'_>, sink: &mut W) -> Result<(), IoError>
+    fn write_end<W: Sink>(&self, request: &ReplayRequest<'_>, sink: &mut W) -> Result<(), IoError>
         requires { (W.state sink.old).has_failed ≡ false }
-        ensures sends { SendsBytes (W.state sink.old) (W.state sink.new) (text output.entry self.now) result }
+        ensures sends { SendsBytes (W.state sink.old) (W.state sink.new) (text request.now self.now) result }
         ensures write { OnErr result (result ≡ Err IoError.Write) };
 }
 
 impl<P: Placer> TraceTaker for Replay<P> {
     ghost IsFor = { IsForHeap };
 
-    ghost begun = { λ settings others reading. begun (empty_run settings) reading };
+    ghost begun = { λ request. begun (empty_run request.settings) request.reading };
 
     ghost Takes = { Replays };
 
@@ -101,13 +93,8 @@ impl<P: Placer> TraceTaker for Replay<P> {
 
     ghost ran_out = { λ replay. ran_out replay.progress };
 
-    fn begin(
-        alloc: Global,
-        settings: Settings,
-        _others: &[Policy],
-        reading: Reading,
-    ) -> Result<Self, AllocError> {
-        Replay::with_settings(alloc, settings, reading)
+    fn begin(alloc: Global, request: &ReplayRequest<'_>) -> Result<Self, AllocError> {
+        Replay::with_settings(alloc, request.settings, request.reading)
     }
 
     fn take<S: Source, W: Sink>(
@@ -124,14 +111,14 @@ impl<P: Placer> TraceTaker for Replay<P> {
 }
 
 impl<P: Placer> TracePrinter for Replay<P> {
-    ghost text = { replay_text };
+    ghost text = { λ request. replay_text request.output };
 
-    fn write_end<W: Sink>(&self, output: ReplayOutput<'_>, sink: &mut W) -> Result<(), IoError> {
-        match output {
+    fn write_end<W: Sink>(&self, request: &ReplayRequest<'_>, sink: &mut W) -> Result<(), IoError> {
+        match request.output {
             ReplayOutput::Summary(format) => {
                 write_summary(&self.figures(), table_format(format), sink)
             }
-            ReplayOutput::Sizes(format) => write_sizes(self.sizes(), table_format(format), sink),
+            ReplayOutput::Sizes(format) => write_sizes(self.run().sizes(), table_format(format), sink),
             _ => self.end_series(sink),
         }
     }
@@ -140,7 +127,7 @@ impl<P: Placer> TracePrinter for Replay<P> {
 impl<P: Placer> TraceTaker for ReplayGroup<P> {
     ghost IsFor = { IsForHeap };
 
-    ghost begun = { begun_group };
+    ghost begun = { λ request. begun_group request.settings request.others request.reading };
 
     ghost Takes = { GroupReplays };
 
@@ -148,13 +135,9 @@ impl<P: Placer> TraceTaker for ReplayGroup<P> {
 
     ghost ran_out = { any_ran_out };
 
-    fn begin(
-        alloc: Global,
-        settings: Settings,
-        others: &[Policy],
-        reading: Reading,
-    ) -> Result<Self, AllocError> {
-        ReplayGroup::with_settings(alloc, settings, others, reading)
+    fn begin(alloc: Global, request: &ReplayRequest<'_>) -> Result<Self, AllocError> {
+        let others = request.others.as_slice();
+        ReplayGroup::with_settings(alloc, request.settings, others, request.reading)
     }
 
     fn take<S: Source, W: Sink>(
@@ -172,17 +155,17 @@ impl<P: Placer> TraceTaker for ReplayGroup<P> {
 }
 
 impl<P: Placer> TracePrinter for ReplayGroup<P> {
-    ghost text = { group_text };
+    ghost text = { λ request. group_text request.output };
 
-    fn write_end<W: Sink>(&self, output: ReplayOutput<'_>, sink: &mut W) -> Result<(), IoError> {
-        self.write(table_format(format_of(output)), sink)
+    fn write_end<W: Sink>(&self, request: &ReplayRequest<'_>, sink: &mut W) -> Result<(), IoError> {
+        self.write(table_format(format_of(request.output)), sink)
     }
 }
 
 impl<P: Placer> TraceTaker for Script<P> {
     ghost IsFor = { IsForScript };
 
-    ghost begun = { λ settings others reading. script_begun settings reading };
+    ghost begun = { λ request. script_begun request.settings request.reading };
 
     ghost Takes = { Writes };
 
@@ -190,13 +173,8 @@ impl<P: Placer> TraceTaker for Script<P> {
 
     ghost ran_out = { λ script. ran_out script.progress };
 
-    fn begin(
-        alloc: Global,
-        settings: Settings,
-        _others: &[Policy],
-        reading: Reading,
-    ) -> Result<Self, AllocError> {
-        Script::with_settings(alloc, settings, reading)
+    fn begin(alloc: Global, request: &ReplayRequest<'_>) -> Result<Self, AllocError> {
+        Script::with_settings(alloc, request.settings, request.reading)
     }
 
     fn take<S: Source, W: Sink>(

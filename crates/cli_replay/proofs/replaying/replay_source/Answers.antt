@@ -1,5 +1,6 @@
-use Rattle.std.proofs.Common.{◌∙◌, sym}
+use Rattle.std.proofs.Common.{◌==◌, ◌∙◌, List, ap, length, sym}
 use Rattle.cc_heap.specs.Lost.{empty_run}
+use Rattle.cc_heap.specs.declared.policy.Policy.{Policy}
 use Rattle.cc_replay.specs.Group.{begun_group}
 use Rattle.cc_replay.specs.Replay.{begun}
 use Rattle.cc_replay.specs.Script.{script_begun}
@@ -12,16 +13,18 @@ use Rattle.cli_replay.proofs.replaying.replay_source.Goals as goal
 pub returns-in_ok-charting-in-Chart-clause-replays : goal.returns-in_ok-charting-in-Chart-clause-replays
 returns-in_ok-charting-in-Chart-clause-replays g c = λ errors errors_now.
     let traffic = traffic_on (g.S.Source.state c.args.source.now) (g.S.Source.state c.sum_up.new.source) (g.W.Sink.state c.args.sink.now) (g.W.Sink.state c.sum_up.new.sink) errors errors_now in
-    by_output (λ state. Drawn state traffic c.sum_up.result) (Written c.args.settings c.args.others.now c.args.reading traffic c.sum_up.result) c.args.output Chart
-    _ (begun_chart c.args.settings c.args.reading) c.in-Chart.is c.in_ok-charting-in-Chart.ensures.begins
+    by_output (λ state. Drawn c.args.request.now.settings state traffic c.sum_up.result)
+    (Written c.args.request.now.settings c.args.request.now.others c.args.request.now.reading traffic c.sum_up.result) c.args.request.now.output Chart
+    _ (begun_chart c.args.request.now.settings c.args.request.now.reading) c.in-Chart.is c.in_ok-charting-in-Chart.ensures.begins
     (λ holds. holds) (c.sum_up.ensures.sums_up errors errors_now)
 
 pub returns-in_ok-script-in-Script-clause-replays : goal.returns-in_ok-script-in-Script-clause-replays
 returns-in_ok-script-in-Script-clause-replays g c = λ errors errors_now.
     let traffic = traffic_on (g.S.Source.state c.args.source.now) (g.S.Source.state c.write_script.new.source)
     (g.W.Sink.state c.args.sink.now) (g.W.Sink.state c.write_script.new.sink) errors errors_now in
-    by_output (λ state. Scripted state traffic c.write_script.result) (Written c.args.settings c.args.others.now c.args.reading traffic c.write_script.result) c.args.output Script
-    _ (script_begun c.args.settings c.args.reading) c.in-Script.is c.in_ok-script-in-Script.ensures.begins
+    by_output (λ state. Scripted state traffic c.write_script.result)
+    (Written c.args.request.now.settings c.args.request.now.others c.args.request.now.reading traffic c.write_script.result) c.args.request.now.output Script
+    _ (script_begun c.args.request.now.settings c.args.request.now.reading) c.in-Script.is c.in_ok-script-in-Script.ensures.begins
     (λ holds. holds) (c.write_script.ensures.scripts errors errors_now)
 
 pub returns-in_ok-replay-in-Series-clause-replays : goal.returns-in_ok-replay-in-Series-clause-replays
@@ -29,8 +32,8 @@ returns-in_ok-replay-in-Series-clause-replays g c = λ errors errors_now.
     let traffic = traffic_on (g.S.Source.state c.args.source.now) (g.S.Source.state c.write_series.new.source)
     (g.W.Sink.state c.args.sink.now) (g.W.Sink.state c.write_series.new.sink) errors errors_now in
     by_output (λ state. Sampled state traffic c.write_series.result)
-    (Written c.args.settings c.args.others.now c.args.reading traffic c.write_series.result) c.args.output (Series c.in-Series.field-0)
-    _ (begun (empty_run c.args.settings) c.args.reading) c.in-Series.is c.in_ok-replay-in-Series.ensures.begins
+    (Written c.args.request.now.settings c.args.request.now.others c.args.request.now.reading traffic c.write_series.result) c.args.request.now.output (Series c.in-Series.field-0)
+    _ (begun (empty_run c.args.request.now.settings) c.args.request.now.reading) c.in-Series.is c.in_ok-replay-in-Series.ensures.begins
     (λ holds. holds) (c.write_series.ensures.samples errors errors_now)
 
 pub returns-in_ok-replay-in-Sizes-clause-replays : goal.returns-in_ok-replay-in-Sizes-clause-replays
@@ -38,8 +41,8 @@ returns-in_ok-replay-in-Sizes-clause-replays g c = λ errors errors_now.
     let traffic = traffic_on (g.S.Source.state c.args.source.now) (g.S.Source.state c.sum_up-in-Sizes.new.source)
     (g.W.Sink.state c.args.sink.now) (g.W.Sink.state c.sum_up-in-Sizes.new.sink) errors errors_now in
     by_output (λ state. Alone state traffic c.sum_up-in-Sizes.result)
-    (Written c.args.settings c.args.others.now c.args.reading traffic c.sum_up-in-Sizes.result) c.args.output (Sizes c.in-Sizes.field-0)
-    _ (begun (empty_run c.args.settings) c.args.reading) c.in-Sizes.is c.in_ok-replay-in-Sizes.ensures.begins
+    (Written c.args.request.now.settings c.args.request.now.others c.args.request.now.reading traffic c.sum_up-in-Sizes.result) c.args.request.now.output (Sizes c.in-Sizes.field-0)
+    _ (begun (empty_run c.args.request.now.settings) c.args.request.now.reading) c.in-Sizes.is c.in_ok-replay-in-Sizes.ensures.begins
     (λ holds. holds) (c.sum_up-in-Sizes.ensures.sums_up errors errors_now)
 
 pub returns-then-is_empty-clause-replays : goal.returns-then-is_empty-clause-replays
@@ -47,9 +50,10 @@ returns-then-is_empty-clause-replays g c = λ errors errors_now.
     let traffic = traffic_on (g.S.Source.state c.args.source.now) (g.S.Source.state c.sum_up-then-is_empty.new.source)
     (g.W.Sink.state c.args.sink.now) (g.W.Sink.state c.sum_up-then-is_empty.new.sink) errors errors_now in
     by_output (λ state. Alone state traffic c.sum_up-then-is_empty.result)
-    (Written c.args.settings c.args.others.now c.args.reading traffic c.sum_up-then-is_empty.result) c.args.output (Summary c.in-Summary.field-0)
-    _ (begun (empty_run c.args.settings) c.args.reading) c.in-Summary.is c.in_ok-replay-in-Summary.ensures.begins
-    (alone c.in-Summary.field-0 c.args.settings c.args.others.now c.args.reading traffic c.sum_up-then-is_empty.result (sym c.is_empty.ensures ∙ c.if-is_empty.true))
+    (Written c.args.request.now.settings c.args.request.now.others c.args.request.now.reading traffic c.sum_up-then-is_empty.result) c.args.request.now.output (Summary c.in-Summary.field-0)
+    _ (begun (empty_run c.args.request.now.settings) c.args.request.now.reading) c.in-Summary.is c.in_ok-replay-in-Summary.ensures.begins
+    (alone c.in-Summary.field-0 c.args.request.now.settings c.args.request.now.others c.args.request.now.reading traffic c.sum_up-then-is_empty.result
+    (ap (λ (l : List Policy). length l == 0) (sym c.as_slice.ensures.value) ∙ sym c.is_empty.ensures ∙ c.if-is_empty.true))
     (c.sum_up-then-is_empty.ensures.sums_up errors errors_now)
 
 pub returns-in_ok-group-in-Summary-clause-replays : goal.returns-in_ok-group-in-Summary-clause-replays
@@ -57,7 +61,8 @@ returns-in_ok-group-in-Summary-clause-replays g c = λ errors errors_now.
     let traffic = traffic_on (g.S.Source.state c.args.source.now) (g.S.Source.state c.sum_up-in-Summary.new.source)
     (g.W.Sink.state c.args.sink.now) (g.W.Sink.state c.sum_up-in-Summary.new.sink) errors errors_now in
     by_output (λ state. Swept state traffic c.sum_up-in-Summary.result)
-    (Written c.args.settings c.args.others.now c.args.reading traffic c.sum_up-in-Summary.result) c.args.output (Summary c.in-Summary.field-0)
-    _ (begun_group c.args.settings c.args.others.now c.args.reading) c.in-Summary.is c.in_ok-group-in-Summary.ensures.begins
-    (swept c.in-Summary.field-0 c.args.settings c.args.others.now c.args.reading traffic c.sum_up-in-Summary.result (sym c.is_empty.ensures ∙ c.if-is_empty.false))
+    (Written c.args.request.now.settings c.args.request.now.others c.args.request.now.reading traffic c.sum_up-in-Summary.result) c.args.request.now.output (Summary c.in-Summary.field-0)
+    _ (begun_group c.args.request.now.settings c.args.request.now.others c.args.request.now.reading) c.in-Summary.is c.in_ok-group-in-Summary.ensures.begins
+    (swept c.in-Summary.field-0 c.args.request.now.settings c.args.request.now.others c.args.request.now.reading traffic c.sum_up-in-Summary.result
+    (ap (λ (l : List Policy). length l == 0) (sym c.as_slice.ensures.value) ∙ sym c.is_empty.ensures ∙ c.if-is_empty.false))
     (c.sum_up-in-Summary.ensures.sums_up errors errors_now)

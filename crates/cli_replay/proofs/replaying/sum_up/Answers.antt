@@ -1,4 +1,4 @@
-use Rattle.std.proofs.Common.{◌≡◌, ◌∙◌, Err, None, ap}
+use Rattle.std.proofs.Common.{◌≡◌, ◌∙◌, Err, None, ap, sym}
 use Rattle.std.proofs.lemmas.Result.{err_from_is_err_and}
 use Rattle.std.specs.Io.KnownBytes.{Appends}
 use Rattle.cc_io.specs.Devices.{TakesPrefix}
@@ -17,12 +17,13 @@ returns-in_err-write_end-clause-sums_up g c = λ errors errors_now.
     let source_now = g.S.Source.state c.take.new.source in
     let sink = g.W.Sink.state c.args.sink.now in
     let sink_now = g.W.Sink.state c.write_end.new.sink in
-    on_devices (SumsUp (g.T.TraceTaker.Takes c.args.taker.now) g.T.TraceTaker.ran_out (g.T.TracePrinter.text c.args.output)
+    on_devices (SumsUp (g.T.TraceTaker.Takes c.args.taker.now) g.T.TraceTaker.ran_out (g.T.TracePrinter.text c.args.request.now)
     (traffic_on source source_now sink sink_now errors errors_now)) c.from_residual-in_err-write_end.result (Err Write) (told.1 ∙ ap Err (told.2 ∙ ap fault_of is_write)) (
       c.in_ok-summary.summary,
-      writes_end (g.T.TraceTaker.Takes c.args.taker.now source.unread source_now.unread None None) g.T.TraceTaker.ran_out (g.T.TracePrinter.text c.args.output) (TakesPrefix sink.taken sink_now.taken)
-          c.in_ok-summary.summary c.take.new.taker c.has_run_out.result c.in_ok-summary.ensures.takes c.has_run_out.ensures
-          c.if-has_run_out.false c.in_err-write_end.ensures.sends.err,
+      writes_end (g.T.TraceTaker.Takes c.args.taker.now source.unread source_now.unread None None) g.T.TraceTaker.ran_out (g.T.TracePrinter.text c.args.request.now)
+          (TakesPrefix sink.taken sink_now.taken)
+          c.in_ok-summary.summary c.take.new.self c.has_run_out.result c.in_ok-summary.ensures.takes c.has_run_out.ensures
+          (sym c.in_ok-fail_if.ensures.runs_out) c.in_err-write_end.ensures.sends.err,
     )
 
 pub returns-clause-sums_up : goal.returns-clause-sums_up
@@ -31,5 +32,6 @@ returns-clause-sums_up g c = λ errors errors_now.
     let source_now = g.S.Source.state c.take.new.source in
     let sink = g.W.Sink.state c.args.sink.now in
     let sink_now = g.W.Sink.state c.write_end.new.sink in
-    writes_end (g.T.TraceTaker.Takes c.args.taker.now source.unread source_now.unread None None) g.T.TraceTaker.ran_out (g.T.TracePrinter.text c.args.output) (Appends sink.taken sink_now.taken)
-    _ c.take.new.taker c.has_run_out.result c.in_ok-summary.ensures.takes c.has_run_out.ensures c.if-has_run_out.false c.in_ok-write_end.ensures.sends.ok
+    writes_end (g.T.TraceTaker.Takes c.args.taker.now source.unread source_now.unread None None) g.T.TraceTaker.ran_out (g.T.TracePrinter.text c.args.request.now)
+    (Appends sink.taken sink_now.taken)
+    _ c.take.new.self c.has_run_out.result c.in_ok-summary.ensures.takes c.has_run_out.ensures (sym c.in_ok-fail_if.ensures.runs_out) c.in_ok-write_end.ensures.sends.ok

@@ -1,4 +1,4 @@
-use Rattle.std.proofs.Common.{◌≡◌, ◌∙◌, Err, Ok, ap, subst, sym}
+use Rattle.std.proofs.Common.{◌∙◌, Err, ap}
 use Rattle.std.proofs.lemmas.Result.{err_from_is_err_and}
 use Rattle.cli.specs.Devices.{traffic_on}
 use Rattle.cli.proofs.DeviceLemmas.{on_devices}
@@ -10,4 +10,4 @@ returns-in_err-summary-clause-scripts g c = λ errors errors_now.
     let told = err_from_is_err_and c.from_residual.result c.from_residual.ensures.1 in
     let traffic = traffic_on (g.S.Source.state c.args.source.now) (g.S.Source.state c.take.new.source) (g.W.Sink.state c.args.sink.now) (g.W.Sink.state c.take.new.sink) errors errors_now in
     on_devices (Scripts (g.T.TraceTaker.Takes c.args.taker.now) g.T.TraceTaker.ran_out traffic) c.from_residual.result (Err c.in_err-summary.field-0.0) (told.1 ∙ ap Err told.2)
-    (record { new = c.take.new.taker; takes = c.in_err-summary.ensures.takes })
+    (record { new = c.take.new.self; takes = c.in_err-summary.ensures.takes })

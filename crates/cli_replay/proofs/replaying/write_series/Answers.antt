@@ -1,4 +1,4 @@
-use Rattle.std.proofs.Common.{◌≡◌, ◌∙◌, Err, ap, inr}
+use Rattle.std.proofs.Common.{◌≡◌, ◌∙◌, Err, ap, inr, sym}
 use Rattle.std.proofs.lemmas.Result.{err_from_is_err_and}
 use Rattle.std.specs.Io.KnownBytes.{Appends}
 use Rattle.cc_io.specs.Devices.{TakesPrefix}
@@ -13,10 +13,10 @@ pub returns-in_err-summary-clause-samples : goal.returns-in_err-summary-clause-s
 returns-in_err-summary-clause-samples g c = λ errors errors_now.
     let told = err_from_is_err_and c.from_residual.result c.from_residual.ensures.1 in
     let traffic = traffic_on (g.S.Source.state c.args.source.now) (g.S.Source.state c.take.new.source) (g.W.Sink.state c.args.sink.now) (g.W.Sink.state c.take.new.sink) errors errors_now in
-    on_devices (Samples (g.T.TraceTaker.Takes c.args.taker.now) g.T.TraceTaker.ran_out (g.T.TracePrinter.text c.args.output) traffic) c.from_residual.result (Err c.in_err-summary.field-0.0)
+    on_devices (Samples (g.T.TraceTaker.Takes c.args.taker.now) g.T.TraceTaker.ran_out (g.T.TracePrinter.text c.args.request.now) traffic) c.from_residual.result (Err c.in_err-summary.field-0.0)
     (told.1 ∙ ap Err told.2)
-    (stops_sampling (g.T.TraceTaker.Takes c.args.taker.now) g.T.TraceTaker.ran_out (g.T.TracePrinter.text c.args.output) traffic c.in_err-summary.field-0.0
-    (record { new = c.take.new.taker; takes = c.in_err-summary.ensures.takes }))
+    (stops_sampling (g.T.TraceTaker.Takes c.args.taker.now) g.T.TraceTaker.ran_out (g.T.TracePrinter.text c.args.request.now) traffic c.in_err-summary.field-0.0
+    (record { new = c.take.new.self; takes = c.in_err-summary.ensures.takes }))
 
 pub returns-in_err-write_end-clause-samples : goal.returns-in_err-write_end-clause-samples
 returns-in_err-write_end-clause-samples g c = λ errors errors_now.
@@ -27,14 +27,14 @@ returns-in_err-write_end-clause-samples g c = λ errors errors_now.
     let sink = g.W.Sink.state c.args.sink.now in
     let sink_then = g.W.Sink.state c.take.new.sink in
     let sink_now = g.W.Sink.state c.write_end.new.sink in
-    on_devices (Samples (g.T.TraceTaker.Takes c.args.taker.now) g.T.TraceTaker.ran_out (g.T.TracePrinter.text c.args.output)
+    on_devices (Samples (g.T.TraceTaker.Takes c.args.taker.now) g.T.TraceTaker.ran_out (g.T.TracePrinter.text c.args.request.now)
     (traffic_on source source_now sink sink_now errors errors_now)) c.from_residual-in_err-write_end.result (Err Write) (told.1 ∙ ap Err (told.2 ∙ ap fault_of is_write))
     (inr (
       sink_then.taken,
       c.in_ok-summary.summary,
-      writes_end (g.T.TraceTaker.Takes c.args.taker.now source.unread source_now.unread sink.taken sink_then.taken) g.T.TraceTaker.ran_out (g.T.TracePrinter.text c.args.output)
-          (TakesPrefix sink_then.taken sink_now.taken) c.in_ok-summary.summary c.take.new.taker c.has_run_out.result
-          c.in_ok-summary.ensures.takes c.has_run_out.ensures c.if-has_run_out.false c.in_err-write_end.ensures.sends.err,
+      writes_end (g.T.TraceTaker.Takes c.args.taker.now source.unread source_now.unread sink.taken sink_then.taken) g.T.TraceTaker.ran_out (g.T.TracePrinter.text c.args.request.now)
+          (TakesPrefix sink_then.taken sink_now.taken) c.in_ok-summary.summary c.take.new.self c.has_run_out.result
+          c.in_ok-summary.ensures.takes c.has_run_out.ensures (sym c.in_ok-fail_if.ensures.runs_out) c.in_err-write_end.ensures.sends.err,
     ))
 
 pub returns-clause-samples : goal.returns-clause-samples
@@ -45,7 +45,7 @@ returns-clause-samples g c = λ errors errors_now.
     let sink_then = g.W.Sink.state c.take.new.sink in
     let sink_now = g.W.Sink.state c.write_end.new.sink in (
       sink_then.taken,
-      writes_end (g.T.TraceTaker.Takes c.args.taker.now source.unread source_now.unread sink.taken sink_then.taken) g.T.TraceTaker.ran_out (g.T.TracePrinter.text c.args.output)
-          (Appends sink_then.taken sink_now.taken) _ c.take.new.taker c.has_run_out.result c.in_ok-summary.ensures.takes c.has_run_out.ensures
-          c.if-has_run_out.false c.in_ok-write_end.ensures.sends.ok,
+      writes_end (g.T.TraceTaker.Takes c.args.taker.now source.unread source_now.unread sink.taken sink_then.taken) g.T.TraceTaker.ran_out (g.T.TracePrinter.text c.args.request.now)
+          (Appends sink_then.taken sink_now.taken) _ c.take.new.self c.has_run_out.result c.in_ok-summary.ensures.takes c.has_run_out.ensures
+          (sym c.in_ok-fail_if.ensures.runs_out) c.in_ok-write_end.ensures.sends.ok,
     )

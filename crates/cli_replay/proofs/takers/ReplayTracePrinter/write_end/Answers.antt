@@ -18,4 +18,4 @@ returns-in-Summary-clause-sends g c =
 pub returns-in_default-clause-sends : goal.returns-in_default-clause-sends
 returns-in_default-clause-sends g c =
     subst (λ (bytes : List ℕ). SendsBytes (g.W.Sink.state c.args.sink.now) (g.W.Sink.state c.end_series.new.series) bytes c.end_series.result)
-    (last_text c.args.output c.args.self.now c.in_default.not-Summary c.in_default.not-Sizes) c.end_series.ensures.sends
+    (last_text c.args.request.now.output c.args.self.now c.in_default.not-Summary c.in_default.not-Sizes) c.end_series.ensures.sends
