@@ -324,7 +324,9 @@ class Sources:
             return library.name == "main" and bool(item.clauses)
         if library.name == "main" or item.is_for_c or item.scope is library or item.scope.name in library.open:
             return True
-        return library.exports.get(owner or item.name, "").startswith(f"{item.scope.name}::")
+        exported = library.exports.get(owner or item.name, "")
+        # a type may have an impl in another file than its own
+        return bool(exported) if owner else exported.startswith(f"{item.scope.name}::")
 
     def public(self):
         """Yields the items that callers reach."""

@@ -1,11 +1,9 @@
 //! Lists the words of a core file.
-ghost use Rattle.std.specs.Prelude.{◌≡◌, ◌≤◌, ◌↔◌, [], false, true, length, Some, IsErr, OnErr, OnOk, if◌then◌else◌};
-ghost use Rattle.cc_word.specs.declared.refusal.Refusal.TheVariants as RefusalSpec;
+ghost use Rattle.std.specs.Prelude.{◌≡◌, ◌≤◌, ◌↔◌, false, true, length, Some, IsErr, OnErr, OnOk};
 ghost use Rattle.cc_io.specs.Devices.{SendsBytes};
 ghost use Rattle.cc_explain.specs.Core.{EndsCore, ListsCore, ListsSegment, ListsSegments, core_header};
 ghost use Rattle.cc_explain.specs.Core.{segment_options};
 ghost use Rattle.cc_explain.specs.Elf.{is_table_cut, segments_of};
-ghost use Rattle.cc_explain.specs.Output.{refusal_line};
 
 use crate::decoder::{Decoder, syntax_refusal, unfinished_refusal};
 use crate::decoding::{header, place_name};

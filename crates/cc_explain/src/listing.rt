@@ -27,7 +27,6 @@ ghost use Rattle.cc_explain.specs.Listing.{
   bounds_lines_of,
   field_lines_of,
   line_of,
-  listing_of,
 };
 ghost use Rattle.cc_io.specs.Permissions.{permissions_text};
 
@@ -36,7 +35,7 @@ use cc_cap::{Decoded, Perms};
 use cc_io::{
     IoError, Line, MOST_TEXT, Sink, Summary, Text, push_permissions, push_refusal, write_and_flush,
 };
-use cc_word::{Fields, Refusal, read_word, write_word};
+use cc_word::{Fields, Refusal, read_word};
 
 /// Writes the listing of a word, and flushes the sink once after the last line.
 ///

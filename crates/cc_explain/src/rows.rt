@@ -362,7 +362,7 @@ fn push_span(batch: &mut Batch, separator: u8, bounds: &Span)
 }
 
 /// Appends permissions, flag, type and two more hexadecimal digits, with a separator before each.
-// the digits of all four are made together, with a digit 0 in place of each separator
+// one call gives the digits of all four, with a digit 0 in place of each separator
 #[inline(always)]
 fn push_rights(batch: &mut Batch, separator: u8, fields: &Fields, last: u8)
     requires { length batch.old + 16 ≤ 32768 }
@@ -373,9 +373,11 @@ fn push_rights(batch: &mut Batch, separator: u8, fields: &Fields, last: u8)
 {
     let rights = (u64::from(fields.perms) << 44) + (u64::from(fields.flag) << 36);
     let digits = write_half(rights + (u64::from(fields.otype) << 12) + u64::from(last));
-    let x = separator ^ b'0';
-    let turned = u8x16::from_array([x, 0, 0, 0, 0, x, 0, x, 0, 0, 0, 0, 0, x, 0, 0]);
-    batch.push(&(u8x16::from_array(digits) ^ turned).to_array());
+    let change = separator ^ b'0';
+    let changes = u8x16::from_array([
+        change, 0, 0, 0, 0, change, 0, change, 0, 0, 0, 0, 0, change, 0, 0,
+    ]);
+    batch.push(&(u8x16::from_array(digits) ^ changes).to_array());
 }
 
 /// Appends whether a word is canonical, with a separator before it.

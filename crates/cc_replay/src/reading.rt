@@ -11,7 +11,8 @@ pub struct Reading {
     pub format: TraceFormat,
     /// Whether no line is taken after the first that is refused.
     pub is_strict: bool,
-    /// The number of events from a sample of the series to the next, if there is a series.
+    /// The number of events from a sample of the series to the next, if there is a series. With 0, only sweeps and the
+    /// end have samples.
     pub each: Option<u64>,
 }
 

@@ -89,7 +89,7 @@ pub struct ReplayValues<'a> {
 /// A command and its values.
 #[derive(Clone, Copy)]
 pub enum Invocation<'a> {
-    /// A question about one word or one length.
+    /// A question about one word or one length, which reads no input.
     Ask(Question<'a>),
     /// `run [--slots N] [--stats] [FILE]`: runs a script on a new machine.
     Run {

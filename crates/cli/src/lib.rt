@@ -31,6 +31,7 @@ pub use invocation::{
     DecodeValues, Invocation, PoolTexts, ReplayOutput, ReplayValues, SearchValues, SummaryFormat,
 };
 pub use memory::{GlobalMemory, Memory};
+pub use mistakes::error_with_usage;
 pub use outcome::{Ending, ending_of, ending_status, finish, tell};
 pub use process_inputs::{ProcessInputs, no_input};
 pub use question::{Base, Question};

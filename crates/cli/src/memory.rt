@@ -21,7 +21,7 @@ pub trait Memory {
     // An allocation has failed in the last call.
     ghost has_failed: { Self → Bool };
 
-    /// Reads the program's arguments as [`read_words`] does.
+    /// Reads the program's arguments as [`read_words`] does, which allocates.
     fn read_words<'a>(&mut self, words: &'a [&'a str]) -> Result<Invocation<'a>, Error>
         ensures read { IfOk result (λ invocation. (app : App) × IsProgram app
             × IsInvocation (subcommand_of app (texts words.now)) invocation) }

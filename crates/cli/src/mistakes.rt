@@ -45,7 +45,9 @@ fn mistake_of<'a>(
 }
 
 /// Returns the error of this kind with this message, and the usage of a command.
-fn error_with_usage<'a>(
+///
+/// Errors: `AllocError` if an allocation fails.
+pub fn error_with_usage<'a>(
     alloc: Global,
     usage: &'a str,
     kind: ErrorKind,

@@ -16,7 +16,8 @@ use cli_words::{annotate_file, ask, decode_core_file, decode_file, round_file};
 /// is a terminal, each command writes its hints there too.
 ///
 /// BASE and LENGTH of `plan` and `map` and the values of `replay` are read first. If one is refused, the output is that
-/// refusal, and nothing is read. The machine or the heap is created next, and then the input is opened.
+/// refusal, and nothing is read. The program has refused such values of `replay` before. The machine or the heap is
+/// created next, and then the input is opened.
 ///
 /// Requires: no device has failed.
 /// Errors: `Memory`, `Open`, `Read` and `Write`, each if and only if an allocation, the opening of the command's input,

@@ -75,6 +75,7 @@ fn answer_strings<R: AllocGlobal + Files + Input + Print + Eprint, M: RunMemory 
 ) -> Ending
     requires { M.has_failed memory.old ≡ false }
 {
+    // clap reads borrowed texts
     let words: Result<Vec<&str>, AllocError> = arguments
         .iter()
         .map(|argument| argument.as_str())
@@ -151,7 +152,7 @@ fn answer_on_devices<R: AllocGlobal + Files + Input + Print + Eprint, M: RunMemo
     )
 }
 
-/// Returns a writer of standard output. It has a buffer if the words name `--svg`, since a drawing is written in many
+/// Returns a writer of standard output. It has a buffer if the words name `--svg`, since `map` writes a drawing in many
 /// small pieces.
 fn output_of<'a, R: AllocGlobal + Print>(
     rt: &'a R,
@@ -246,7 +247,7 @@ fn read_invocation<'a, M: ReplaySupport>(
         (λ error. (kind_of error ≡ ErrorKind.OutOfMemory) ↔ (M.has_failed memory.new ≡ true)) }
 {
     match memory.read_words(words) {
-        Ok(invocation) => match check_invocation(memory, invocation) {
+        Ok(invocation) => match check_replay_texts(memory, invocation) {
             Ok(()) => Ok(invocation),
             Err(error) => Err(error),
         },
@@ -254,8 +255,8 @@ fn read_invocation<'a, M: ReplaySupport>(
     }
 }
 
-/// Checks the texts of `replay`.
-fn check_invocation<M: ReplaySupport>(
+/// Checks the texts of `replay`, which only its own crate can read: a program without it refuses the command.
+fn check_replay_texts<M: ReplaySupport>(
     memory: &mut M,
     invocation: Invocation<'_>,
 ) -> Result<(), Error>

@@ -145,11 +145,11 @@ abbrev pub reading_in : ReplayValues → Result Reading Refusal
 reading_in values =
     changed (λ found. record { format = found.0; is_strict = values.strict; each = found.1 }) (both (format_in values.format) (each_given values.output))
 
--- The request of the values, or the first error. `Syntax` comes first: a text is not a number, not a policy, not a pool or not one of
--- the names, or two of `--sizes`, `--svg`, `--script` and `--each` are given, or `--script` with `--realloc keep`, or several policies
--- with another output than the summary. Then comes that a pool ends past 2^64, and then that a number is out of range, or that there
--- are more than eight policies.
+-- The request of the values, or an error. `Syntax` comes first: a text is not a number, not a policy, not a pool or not one of the
+-- names, or two of `--sizes`, `--svg`, `--script` and `--each` are given, or `--script` with `--realloc keep`, or several policies with
+-- another output than the summary. Then comes `OutOfRange` of the policies after the first: there are more than seven, or one has a number
+-- that is too large. Then `OutOfBounds`: the pool ends past 2^64. Then `OutOfRange` of another number: it is too large, or `--each` is 0.
 abbrev pub replay_in : ReplayValues → Result ReplayRequest Refusal
 replay_in values =
-    changed (λ found. record { output = found.0.0.0; settings = found.0.1; reading = found.0.0.1; others = found.1 })
-    (both (both (both (ok_or values.output Syntax) (reading_in values)) (settings_in values)) (others_given values.output values.sweep))
+    changed (λ found. record { output = found.0.0; settings = found.1.0; reading = found.0.1; others = found.1.1 })
+    (both (both (ok_or values.output Syntax) (reading_in values)) (both (settings_in values) (others_given values.output values.sweep)))

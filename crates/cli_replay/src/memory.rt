@@ -36,7 +36,7 @@ pub trait TraceMemory: Memory {
 
     /// Fails if memory ran out in an event.
     ///
-    /// Errors: it did.
+    /// Errors: `AllocError` if `has_run_out`.
     fn fail_if(&mut self, has_run_out: bool) -> Result<(), AllocError>
         ensures runs_out { is_err result ≡ has_run_out }
         ensures fails { Self.has_failed self.new ≡ has_run_out };

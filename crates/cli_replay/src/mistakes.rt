@@ -7,9 +7,9 @@ ghost use Rattle.cli_replay.specs.ReplayValues.{replay_in};
 use crate::replay_values::{
     each_of, format_of, least_of, others_of, policy_of, pool_of, realloc_of, replay_of,
 };
+use clap::Error;
 use clap::error::ErrorKind;
-use clap::{Command, Error};
-use cli::{ReplayOutput, ReplayValues, SummaryFormat};
+use cli::{ReplayOutput, ReplayValues, SummaryFormat, error_with_usage};
 use std::alloc::{AllocError, Global};
 
 const USAGE: &str = "cheri-cap replay [OPTIONS] [FILE]";
@@ -39,8 +39,7 @@ fn mistake(alloc: Global, values: ReplayValues<'_>) -> Result<Error, AllocError>
     ensures { IfOk result (λ error. kind_of error ≡ ErrorKind.ValueValidation) }
 {
     let message = message_of(alloc, values)?;
-    let mut command = Command::new(alloc, "cheri-cap").override_usage(USAGE);
-    command.error(ErrorKind::ValueValidation, message.as_str())
+    error_with_usage(alloc, USAGE, ErrorKind::ValueValidation, message.as_str())
 }
 
 fn message_of(alloc: Global, values: ReplayValues<'_>) -> Result<String, AllocError> {

@@ -29,8 +29,8 @@ ghost use Rattle.cli_replay.specs.Settings.{IsForHeap};
 
 use cc_bounds::Span;
 use cc_replay::{Policy, Reading, Reallocation, Settings, Share, TraceFormat, read_policy};
-use cc_syntax::{both, read_address, read_request};
-use cc_values::split_at_first;
+use cc_syntax::read_request;
+use cc_values::{both, read_address, split_at_first};
 use cc_word::Refusal;
 use cli::{ReplayOutput, ReplayValues};
 use std::marker::Model;
@@ -61,7 +61,7 @@ pub struct ReplayRequest<'a> {
 }
 
 /// At most seven policies.
-#[derive(Drop)]
+#[derive(Clone, Copy)]
 pub struct Policies {
     policies: [Policy; MOST_OTHERS],
     len: usize,
@@ -116,31 +116,25 @@ impl Policies {
 ///
 /// Errors, in order: `Syntax` if a text is not a number, not a policy, not a pool or not one of the names, if two of
 /// `--sizes`, `--svg`, `--script` and `--each` are given, or `--script` with `--realloc keep`, or several policies
-/// with another output than the summary; `OutOfBounds` if the pool ends past 2^64; `OutOfRange` if a number is too
-/// large, the number of `--each` is 0, or there are more than eight policies.
+/// with another output than the summary; `OutOfRange` if there are more than eight policies, or one after the first
+/// has a number that is too large; `OutOfBounds` if the pool ends past 2^64; `OutOfRange` if another number is too
+/// large, or that of `--each` is 0.
 pub(crate) fn replay_of<'a>(values: ReplayValues<'a>) -> Result<ReplayRequest<'a>, Refusal>
     ensures value { result ≡ replay_in values.entry }
     ensures output { IfOk result (λ request. values.entry.output ≡ Some request.output) }
     ensures settings { IfOk result (λ request. IsForHeap request.settings) }
     ensures moves { values.entry.output ≡ Some Script → IfOk result (λ request. request.settings.realloc ≡ Move) }
 {
-    let others = others_of(values.output, values.sweep);
     let trace = both(values.output.ok_or(Refusal::Syntax), reading_of(values));
-    match both(trace, settings_of(values)) {
-        Ok(((output, reading), settings)) => match others {
-            Ok(others) => Ok(ReplayRequest {
-                output,
-                settings,
-                reading,
-                others,
-            }),
-            Err(refusal) => Err(refusal),
-        },
-        Err(Refusal::Syntax) => Err(Refusal::Syntax),
-        Err(refusal) => match others {
-            Ok(_) => Err(refusal),
-            Err(other) => Err(other),
-        },
+    let heaps = both(settings_of(values), others_of(values.output, values.sweep));
+    match both(trace, heaps) {
+        Ok(((output, reading), (settings, others))) => Ok(ReplayRequest {
+            output,
+            settings,
+            reading,
+            others,
+        }),
+        Err(refusal) => Err(refusal),
     }
 }
 

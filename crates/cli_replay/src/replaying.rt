@@ -23,7 +23,8 @@ use cli::{Content, Discard, Fault, Inputs, ReplayOutput, ReplayValues, file_inpu
 /// (`--each`). Two of these together are refused. With several policies the output is the table of their
 /// summaries, from one reading of the trace.
 ///
-/// The values are read first. If one is refused, the output is that refusal, and nothing is read.
+/// The values are read first. If one is refused, the output is that refusal, and nothing is read. The program has
+/// checked them before, and does not keep what it read.
 ///
 /// The summary of the result has an error if a line of the trace is refused. With `--strict`, nothing is read
 /// after the chunk of the first refused line, and in any case nothing after the chunk in which a script ends or

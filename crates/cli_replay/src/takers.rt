@@ -118,7 +118,9 @@ impl<P: Placer> TracePrinter for Replay<P> {
             ReplayOutput::Summary(format) => {
                 write_summary(&self.figures(), table_format(format), sink)
             }
-            ReplayOutput::Sizes(format) => write_sizes(self.run().sizes(), table_format(format), sink),
+            ReplayOutput::Sizes(format) => {
+                write_sizes(self.run().sizes(), table_format(format), sink)
+            }
             _ => self.end_series(sink),
         }
     }

@@ -1,5 +1,5 @@
 -- The output of the commands that run no script, by their input.
-use Rattle.std.specs.Prelude.{◌≡◌, ℕ, Bool, true, false, IsSome, ◌&&◌, ◌||◌, ◌⊎◌, [], List, OnOk, Option, None, Some, Result, Err, IfOk, IfSome, IsTrue, ◌↔◌}
+use Rattle.std.specs.Prelude.{◌≡◌, ℕ, Bool, false, ◌&&◌, ◌||◌, ◌⊎◌, [], List, OnOk, Option, None, Some, Result, Err, IfOk, IfSome, IsTrue, ◌↔◌}
 use Rattle.std.specs.Borrow.{Bor}
 use Rattle.clap.specs.Words.{Text}
 use Rattle.std.specs.List.{list_any}

@@ -171,6 +171,7 @@ fn list_file<I: Inputs, W: Sink, E: Sink>(
     if result.is_err() {
         return result;
     }
+    // the rows come first, and the source has passed the first bytes then, so the hint opens the file again
     hint_file(hints, input, values.skip, inputs, file_input(file), errors);
     result
 }

@@ -36,7 +36,7 @@ returns-in-Err g c = record {
     error_is = refl;
     fits = omega (arith, c.refusal_bytes.ensures.fits);
     counted = λ opening exchanges whole is counts. c.take_refused.ensures opening exchanges whole is
-            (subst (λ (tally : Tally). IsTally opening exchanges tally) (sym c.answer_line.ensures.tally) counts);
+        (subst (λ (tally : Tally). IsTally opening exchanges tally) (sym c.answer_line.ensures.tally) counts);
     same = c.answer_line.ensures.same;
   };
 }
