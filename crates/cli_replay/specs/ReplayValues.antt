@@ -151,5 +151,5 @@ reading_in values =
 -- that is too large. Then `OutOfBounds`: the pool ends past 2^64. Then `OutOfRange` of another number: it is too large, or `--each` is 0.
 abbrev pub replay_in : ReplayValues → Result ReplayRequest Refusal
 replay_in values =
-    changed (λ found. record { output = found.0.0; settings = found.1.0; reading = found.0.1; others = found.1.1 })
-    (both (both (ok_or values.output Syntax) (reading_in values)) (both (settings_in values) (others_given values.output values.sweep)))
+    changed (λ found. record { output = found.0.0.0; settings = found.0.1; reading = found.0.0.1; others = found.1 })
+    (both (both (both (ok_or values.output Syntax) (reading_in values)) (settings_in values)) (others_given values.output values.sweep))

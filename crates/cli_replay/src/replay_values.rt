@@ -61,7 +61,7 @@ pub struct ReplayRequest<'a> {
 }
 
 /// At most seven policies.
-#[derive(Clone, Copy)]
+#[derive(Drop)]
 pub struct Policies {
     policies: [Policy; MOST_OTHERS],
     len: usize,
@@ -125,16 +125,24 @@ pub(crate) fn replay_of<'a>(values: ReplayValues<'a>) -> Result<ReplayRequest<'a
     ensures settings { IfOk result (λ request. IsForHeap request.settings) }
     ensures moves { values.entry.output ≡ Some Script → IfOk result (λ request. request.settings.realloc ≡ Move) }
 {
+    let others = others_of(values.output, values.sweep);
     let trace = both(values.output.ok_or(Refusal::Syntax), reading_of(values));
-    let heaps = both(settings_of(values), others_of(values.output, values.sweep));
-    match both(trace, heaps) {
-        Ok(((output, reading), (settings, others))) => Ok(ReplayRequest {
-            output,
-            settings,
-            reading,
-            others,
-        }),
-        Err(refusal) => Err(refusal),
+    // `both` joins values that can be copied, and `Policies` cannot
+    match both(trace, settings_of(values)) {
+        Ok(((output, reading), settings)) => match others {
+            Ok(others) => Ok(ReplayRequest {
+                output,
+                settings,
+                reading,
+                others,
+            }),
+            Err(refusal) => Err(refusal),
+        },
+        Err(Refusal::Syntax) => Err(Refusal::Syntax),
+        Err(refusal) => match others {
+            Ok(_) => Err(refusal),
+            Err(other) => Err(other),
+        },
     }
 }
 
