@@ -172,6 +172,12 @@ def merged(ends, field, at=0):
     return z3.If(condition, *terms) if len(terms) == 2 and not terms[0].eq(terms[1]) else terms[0]
 
 
+def along(path, term):
+    """Returns a term as it is on a path, whose conditions hold."""
+    known = [(it.arg(0), z3.BoolVal(False)) if z3.is_not(it) else (it, z3.BoolVal(True)) for it in path]
+    return z3.simplify(z3.substitute(term, *known))
+
+
 def differing(ends, wanted):
     return z3.Or(*[merged(ends, it) != wanted[it] for it in wanted])
 
@@ -383,7 +389,7 @@ def moved(_, ends, wanted):
 
 def offset(_, ends, wanted):
     """set_offset: first that the code adds the number to the word's base, and then, as for increment, for every new address."""
-    made = [it for it in ends if not z3.is_bv_value(it[1]["low"])]
+    made = [(path, {"low": along(path, fields["low"])}) for path, fields in ends if not z3.is_bv_value(fields["low"])]
     if not made:
         raise NotProved("no word", None)
     low = merged(made, "low")
