@@ -1,10 +1,11 @@
 -- Output that is written in several chunks.
-use Rattle.std.proofs.Common.{◌≡◌, ◌+◌, ◌∙◌, ◌++◌, ℕ, List, [], Option, Result, Ok, Err, append-nil, append_assoc, ap, arith, length, length-append, refl, subst, sym, take}
+use Rattle.std.proofs.Common.{◌≡◌, ◌+◌, ◌∙◌, ◌++◌, ℕ, List, [], Option, Result, Ok, Err, append-nil, append_assoc, ap, arith, inl, inr, length, length-append, refl, subst, sym, take}
 use Rattle.std.proofs.lemmas.List.{take-append-le}
 use Rattle.std.proofs.Math.Seq.{take-append-add}
 use Rattle.std.specs.Prelude.{OnErr, OnOk, ⊤}
 use Rattle.std.specs.Io.KnownBytes.{Appends}
 use Rattle.cc_io.specs.Devices.{OutputState, SendsBytes, TakesPrefix, WritesBytes}
+use Rattle.cc_io.specs.Engine.{PassesPage}
 use Rattle.cc_io.proofs.DeviceLemmas.{appends_none, appends_twice}
 
 -- Writing holds if all of the output was written except `rest`.
@@ -23,6 +24,14 @@ writing_more a b c piece rest whole w p = record {
   written = appends_twice a b c w.done piece w.written p;
   whole_is = append_assoc w.done piece rest ∙ w.whole_is;
 }
+
+-- A page was written and is empty, or nothing was done: the bytes on the page are still to be written, before the others.
+pub writing_passes : (a b c : Option (List ℕ)) (page page_now rest whole : List ℕ) → Writing a b (page ++ rest) whole → PassesPage b c page page_now
+    → Writing a c (page_now ++ rest) whole
+writing_passes a b c page page_now rest whole w (inl (same, kept)) =
+    subst (λ (now : Option (List ℕ)). Writing a now (page_now ++ rest) whole) (sym same) (subst (λ (l : List ℕ). Writing a b (l ++ rest) whole) (sym kept) w)
+writing_passes a b c page page_now rest whole w (inr (written, empty)) =
+    subst (λ (l : List ℕ). Writing a c (l ++ rest) whole) (sym empty) (writing_more a b c page rest whole w written)
 
 -- The unwritten bytes may be named by an equal list.
 pub writing_same : (a b : Option (List ℕ)) (rest other whole : List ℕ) → rest ≡ other → Writing a b rest whole → Writing a b other whole

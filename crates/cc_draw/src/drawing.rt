@@ -10,7 +10,7 @@ use crate::layout::{Layout, ROW, cells_of};
 use crate::usage::pool_span;
 use cc_bounds::Span;
 use cc_io::{
-    Failed, IoError, Line, Page, Sink, Summary, end_with_decimal, end_with_hexadecimal,
+    Failed, IoError, Line, Page, Sink, Summary, end_with_decimal, end_with_hexadecimal, make_room,
     push_decimal, push_hexadecimal, push_markup, write_all, write_and_flush,
 };
 use cc_placer::Placer;
@@ -18,6 +18,9 @@ use cc_plan::{ObjectState, PlannedObject, Planner};
 
 /// The maximum length in bytes of a part of a drawing that is written at once.
 const MOST_PART: usize = 8192;
+
+/// The maximum length in bytes of the rectangles of an object: one of 300 bytes in each of 16 rows.
+const MOST_OBJECT: usize = 4800;
 
 /// Writes a drawing of the planner's pool, and flushes the sink once after it.
 ///
@@ -304,18 +307,17 @@ fn write_objects<W: Sink>(
     let mut number = 1;
     let mut rest = objects;
     'objects: while let Some((object, after)) = rest.split_first() {
+        match make_room(MOST_OBJECT, &mut page, sink) {
+            Ok(()) => {}
+            Err(Failed) => return Err(Failed),
+        }
         if is_in(state, object.state()) {
-            page.clear();
             push_object(&mut page, layout, number, &object.span());
-            match write_all(sink, page.bytes()) {
-                Ok(()) => {}
-                Err(Failed) => return Err(Failed),
-            }
         }
         number += 1;
         rest = after;
     }
-    Ok(())
+    write_all(sink, page.bytes())
 }
 
 /// Returns whether an object in the state `other` is drawn in the layer of `state`, that is,
@@ -331,14 +333,13 @@ fn is_in(state: ObjectState, other: ObjectState) -> bool
 }
 
 /// Appends the rectangles of an object: one in each row that has a cell of it.
-///
-/// Requires: `page` is empty.
 fn push_object(page: &mut Page<MOST_PART>, layout: &Layout, number: u32, span: &Span)
-    requires empty { page.old ≡ [] }
+    requires room { length page.old + MOST_OBJECT ≤ MOST_PART }
     requires some { 0 < layout.now.size }
     requires cells { layout.now.cells ≤ 16384 }
     requires width { layout.now.width ≤ 1024 }
-    ensures { page.new ≡ object_text layout.now number span.now }
+    ensures value { page.new ≡ page.old ++ object_text layout.now number span.now }
+    ensures fits { length page.new ≤ length page.old + MOST_OBJECT }
 {
     let (first, end) = cells_of(layout.start, layout.size, span);
     let mut row = 0;

@@ -22,10 +22,9 @@ use cli::{
     ending_of, finish, no_input, tell,
 };
 use cli_scripts::{RunMemory, Terminals};
-use either::{Either, Left, Right};
 use std::alloc::AllocError;
 use std::env::{self, Env};
-use std::io::{self, BufWriter, Printer};
+use std::io;
 use std::rt::Files;
 
 /// Executes the command line of the process, and returns the exit status. The arguments have to be UTF-8.
@@ -139,7 +138,7 @@ fn answer_on_devices<R: AllocGlobal + Files + Input + Print + Eprint, M: RunMemo
         reason,
     );
     let mut source = no_input();
-    let mut sink = FromWriter::new(Noting::new(output_of(rt, words), reason));
+    let mut sink = FromWriter::new(Noting::new(io::writer(rt), reason));
     let mut errors = FromWriter::new(ErrorWriter { to: rt });
     answer_words(
         memory,
@@ -150,20 +149,6 @@ fn answer_on_devices<R: AllocGlobal + Files + Input + Print + Eprint, M: RunMemo
         &mut sink,
         &mut errors,
     )
-}
-
-/// Returns a writer of standard output. It has a buffer if the words name `--svg`, since `map` writes a drawing in many
-/// small pieces.
-fn output_of<'a, R: AllocGlobal + Print>(
-    rt: &'a R,
-    words: &[&str],
-) -> Either<BufWriter<Printer<'a, R>>, Printer<'a, R>> {
-    if words.iter().any(|word| *word == "--svg") {
-        if let Ok(output) = BufWriter::new(rt.alloc(), io::writer(rt)) {
-            return Left(output);
-        }
-    }
-    Right(io::writer(rt))
 }
 
 /// Executes the arguments of a command line on these devices, and returns the program's end. The first argument is the

@@ -42,8 +42,12 @@ rows-preserved c =
           })
     ]
 
-pub returns : goal.returns
-returns c =
+pub returns-clause-value : goal.returns-clause-value
+returns-clause-value c =
     let none = parts_none c.args.layout.now.width c.cells_of-first.result.0 c.cells_of-first.result.1 c.args.number c.args.span.now c.rows.rows_left c.rows.row (search rules) in
     sym (append-nil c.rows.page) ∙ ap (λ (l : List ℕ). c.rows.page ++ l) (sym none) ∙ c.rows.invariant.text
-    ∙ ap₂ (λ (from to : ℕ). parts_text c.args.layout.now.width from to c.args.number c.args.span.now (row_count c.args.layout.now) 0) c.cells_of-first.ensures.first c.cells_of-first.ensures.end
+    ∙ ap₂ (λ (from to : ℕ). c.args.page.now ++ parts_text c.args.layout.now.width from to c.args.number c.args.span.now (row_count c.args.layout.now) 0)
+    c.cells_of-first.ensures.first c.cells_of-first.ensures.end
+
+pub returns-clause-fits : goal.returns-clause-fits
+returns-clause-fits c = omega (arith, c.rows.invariant.room, c.rows.invariant.few)
