@@ -2,6 +2,3 @@ mod UsageLemmas
 mod MapLemmas
 mod WritingLemmas
 pub mod DrawingLemmas
-pub mod LevelLemmas
-pub mod LabelLemmas
-pub mod AxisLemmas

@@ -4,3 +4,6 @@ pub mod HeapLemmas
 pub mod StepLemmas
 pub mod RunLemmas
 pub mod SizeLemmas
+pub mod LevelLemmas
+pub mod LabelLemmas
+pub mod AxisLemmas

@@ -11,3 +11,7 @@ pub mod Peaks
 pub mod Sizes
 pub mod Lost
 pub mod HeapState
+pub mod Levels
+pub mod Chart
+pub mod Scale
+pub mod ChartDrawing

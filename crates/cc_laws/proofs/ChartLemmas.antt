@@ -1,9 +1,9 @@
 -- A chart shows all its events.
 use Rattle.std.proofs.Common.{◌≡◌, ◌∙◌, ◌⊎◌, inl, inr, ℕ, Bool, true, false, zero, suc, ◌+◌, ◌-◌, ◌*◌, ◌^◌, ◌<◌, ◌≤◌, min, nat_lt, ◌==◌, List, [], ◌∷◌, ◌++◌, length, arith, ap, refl, subst, sym}
-use Rattle.cc_draw.specs.declared.levels.Levels.{Levels}
-use Rattle.cc_draw.specs.Levels.{greater_of, greatest, no_levels}
-use Rattle.cc_draw.specs.Chart.{AreColumns, Chart, IsChartOf, halved_if_full, joined, no_chart, with_event, with_events}
-use Rattle.cc_draw.proofs.LevelLemmas.{greatest_of_both, greatest_with}
+use Rattle.cc_heap.specs.declared.levels.Levels.{Levels}
+use Rattle.cc_heap.specs.Levels.{greater_of, greatest, no_levels}
+use Rattle.cc_heap.specs.Chart.{AreColumns, Chart, IsChartOf, halved_if_full, joined, no_chart, with_event, with_events}
+use Rattle.cc_heap.proofs.LevelLemmas.{greatest_of_both, greatest_with}
 
 -- ---- lists
 

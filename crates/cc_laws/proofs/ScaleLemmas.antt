@@ -5,11 +5,11 @@ use Rattle.std.proofs.Math.Pow.{pow_mono}
 use Rattle.std.proofs.lemmas.Bool.{cases_lt}
 use Rattle.std.proofs.lemmas.Nat.{leading_length, pow_pos}
 use Rattle.std.specs.Int.Count.{count_leading_zeros}
-use Rattle.cc_draw.specs.declared.curves.Curve.{Curve}
-use Rattle.cc_draw.specs.declared.curves.Curve.TheVariants.{Live, Quarantine, Held, High}
-use Rattle.cc_draw.specs.declared.levels.Levels.{Levels}
-use Rattle.cc_draw.specs.ChartDrawing.{bytes_of}
-use Rattle.cc_draw.specs.Scale.{reach_of, step_count, step_power, top_of}
+use Rattle.cc_heap.specs.declared.curves.Curve.{Curve}
+use Rattle.cc_heap.specs.declared.curves.Curve.TheVariants.{Live, Quarantine, Held, High}
+use Rattle.cc_heap.specs.declared.levels.Levels.{Levels}
+use Rattle.cc_heap.specs.ChartDrawing.{bytes_of}
+use Rattle.cc_heap.specs.Scale.{reach_of, step_count, step_power, top_of}
 
 -- eight steps reach the bytes, and no smaller power of two does
 record IsStep (reach power : ℕ) : Type 0 where

@@ -10,9 +10,9 @@ use Rattle.cc_machine.specs.State.{State}
 use Rattle.cc_machine.specs.Run.{Run}
 use Rattle.cc_placer.specs.declared.event.Event.{Event}
 use Rattle.cc_placer.specs.declared.event.Event.TheVariants.{Clock}
-use Rattle.cc_draw.specs.declared.levels.Levels.{Levels}
-use Rattle.cc_draw.specs.Chart.{IsChartOf, no_chart}
-use Rattle.cc_draw.specs.Levels.{greatest, no_levels}
+use Rattle.cc_heap.specs.declared.levels.Levels.{Levels}
+use Rattle.cc_heap.specs.Chart.{IsChartOf, no_chart}
+use Rattle.cc_heap.specs.Levels.{greatest, no_levels}
 use Rattle.cc_replay.specs.declared.reading.Progress.TheVariants.{Running}
 use Rattle.cc_replay.specs.declared.reading.Reading.{Reading}
 use Rattle.cc_heap.specs.declared.settings.Settings.{Settings}

@@ -1,7 +1,7 @@
 -- The levels of the events of a trace, and the chart that shows them.
 use Rattle.std.specs.Prelude.{◌≡◌, ◌+◌, max, List, [], ◌∷◌, ◌++◌}
-use Rattle.cc_draw.specs.declared.levels.Levels.{Levels}
-use Rattle.cc_draw.specs.Chart.{IsChartOf}
+use Rattle.cc_heap.specs.declared.levels.Levels.{Levels}
+use Rattle.cc_heap.specs.Chart.{IsChartOf}
 use Rattle.cc_placer.specs.declared.event.Event.{Event}
 use Rattle.cc_heap.specs.declared.outcome.Outcome.{Outcome}
 use Rattle.cc_heap.specs.Events.{IsEvent}

@@ -1,10 +1,10 @@
 //! The laws of charts.
 ghost use Rattle.std.specs.Prelude.{ℕ, ◌<◌, ◌≤◌, ◌*◌, ◌^◌, max, List, length};
-ghost use Rattle.cc_draw.specs.declared.levels.Levels.{Levels};
-ghost use Rattle.cc_draw.specs.declared.curves.Curve.{Curve};
-ghost use Rattle.cc_draw.specs.Chart.{IsChartOf, no_chart, with_events};
-ghost use Rattle.cc_draw.specs.ChartDrawing.{bytes_of};
-ghost use Rattle.cc_draw.specs.Scale.{reach_of, step_count, step_power, top_of};
+ghost use Rattle.cc_heap.specs.declared.levels.Levels.{Levels};
+ghost use Rattle.cc_heap.specs.declared.curves.Curve.{Curve};
+ghost use Rattle.cc_heap.specs.Chart.{IsChartOf, no_chart, with_events};
+ghost use Rattle.cc_heap.specs.ChartDrawing.{bytes_of};
+ghost use Rattle.cc_heap.specs.Scale.{reach_of, step_count, step_power, top_of};
 
 /// Proves that a chart shows each of its events in a column, in order, the same number of them in each
 /// full column, and that a column has the largest levels of its events.

@@ -8,7 +8,7 @@ ghost use Rattle.cc_machine.specs.Run.{IsInAddressSpace};
 ghost use Rattle.cc_placer.specs.Alignment.{HasAlignment};
 ghost use Rattle.cc_placer.specs.declared.event.Event.TheVariants.{Allocate, Free};
 ghost use Rattle.cc_replay.specs.Changes.{AsksForUnit};
-ghost use Rattle.cc_draw.specs.ChartDrawing.{byte_unit, event_letter, event_unit};
+ghost use Rattle.cc_heap.specs.ChartDrawing.{byte_unit, event_letter, event_unit};
 ghost use Rattle.cc_replay.specs.Trace.{HasNumbersInRange};
 ghost use Rattle.cc_replay.specs.Mtrace.{IsCaller, allocation_line, free_line};
 

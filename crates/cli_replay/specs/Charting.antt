@@ -1,9 +1,9 @@
 -- The output of `replay --svg`: a chart of the heap of a trace over its events.
 use Rattle.std.specs.Prelude.{ℕ, Bool, ◌≡◌, ◌+◌, ◌++◌, codes, decimal, max, List, Option, Some, Result, Ok}
 use Rattle.cc_bounds.specs.Align.{align_bytes}
-use Rattle.cc_draw.specs.declared.levels.Levels.{Levels}
-use Rattle.cc_draw.specs.Chart.{Chart, no_chart, with_event}
-use Rattle.cc_draw.specs.ChartDrawing.{chart_text}
+use Rattle.cc_heap.specs.declared.levels.Levels.{Levels}
+use Rattle.cc_heap.specs.Chart.{Chart, no_chart, with_event}
+use Rattle.cc_heap.specs.ChartDrawing.{chart_text}
 use Rattle.cc_heap.specs.Lost.{empty_run}
 use Rattle.cc_heap.specs.Peaks.{without_peaks}
 use Rattle.cc_heap.specs.Totals.{capped_sum}

@@ -18,7 +18,7 @@ ghost use Rattle.cli_replay.specs.Settings.{IsForHeap};
 
 use crate::replay_values::ReplayRequest;
 use crate::takers::{TracePrinter, TraceTaker, ran_out};
-use cc_draw::{Chart, Levels, write_chart};
+use cc_heap::{Chart, Levels, write_chart};
 use cc_io::{Answerer, IoError, Line, Lines, Page, Pending, Sink, Source, Summary, pump};
 use cc_placer::Placer;
 use cc_replay::{Entry, Figures, MOST_SAMPLE, Replay, Settings, push_policy};

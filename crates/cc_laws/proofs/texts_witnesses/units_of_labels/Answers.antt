@@ -1,5 +1,5 @@
 use Rattle.std.proofs.Common.{refl}
-use Rattle.cc_draw.specs.ChartDrawing.{byte_unit}
+use Rattle.cc_heap.specs.ChartDrawing.{byte_unit}
 use Rattle.cc_laws.proofs.texts_witnesses.units_of_labels.Goals as goal
 
 pub returns-clause-bytes : goal.returns-clause-bytes

@@ -1,5 +1,5 @@
 use Rattle.std.proofs.Common.{◌≡◌, ◌∙◌, ℕ, List, ap, subst}
-use Rattle.cc_draw.specs.ChartDrawing.{chart_text}
+use Rattle.cc_heap.specs.ChartDrawing.{chart_text}
 use Rattle.cc_io.specs.Devices.{SendsBytes}
 use Rattle.cli_replay.specs.Charting.{charted_text}
 use Rattle.cli_replay.proofs.charting.ChartingTracePrinter.write_end.Goals as goal

@@ -1,0 +1,7 @@
+use Rattle.std.proofs.Common.{append_assoc}
+use Rattle.cc_heap.proofs.chart_drawing.push_byte_label.Goals as goal
+
+pub returns-clause-value : goal.returns-clause-value
+returns-clause-value g c =
+    rw (c.push.ensures, c.byte_unit.ensures.value, c.push_decimal-2.ensures.value, c.power_of_two.ensures.value, c.push_decimal.ensures.value, c.end_with_decimal.ensures.value)
+    (simp append_assoc)
