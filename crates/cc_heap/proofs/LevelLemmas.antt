@@ -1,7 +1,7 @@
 -- The greatest of levels.
 use Rattle.std.proofs.Common.{◌≡◌, ◌∙◌, ℕ, max, List, [], ◌∷◌, ◌++◌, arith, ap, sym}
 use Rattle.cc_heap.specs.declared.levels.Levels.{Levels}
-use Rattle.cc_heap.specs.Levels.{greater_of, greatest, no_levels}
+use Rattle.cc_heap.specs.Levels.{greater_of, greatest_of, no_levels}
 
 max_of_three : (a b c : ℕ) → max (max a b) c ≡ max a (max b c)
 max_of_three a b c = omega arith
@@ -39,14 +39,14 @@ none_with a = λ i. record {
 
 -- the greatest after those before
 pub greatest_after : (most first : Levels) (others : List Levels)
-    → greater_of (greater_of most first) (greatest others) ≡ greater_of most (greatest (first ∷ others))
-greatest_after most first others = of_three most first (greatest others)
+    → greater_of (greater_of most first) (greatest_of others) ≡ greater_of most (greatest_of (first ∷ others))
+greatest_after most first others = of_three most first (greatest_of others)
 
 -- the greatest of two lists
-pub greatest_of_both : (first second : List Levels) → greatest (first ++ second) ≡ greater_of (greatest first) (greatest second)
-greatest_of_both [] second = sym (none_with (greatest second))
+pub greatest_of_both : (first second : List Levels) → greatest_of (first ++ second) ≡ greater_of (greatest_of first) (greatest_of second)
+greatest_of_both [] second = sym (none_with (greatest_of second))
 greatest_of_both (levels ∷ first) second =
-    ap (greater_of levels) (greatest_of_both first second) ∙ sym (of_three levels (greatest first) (greatest second))
+    ap (greater_of levels) (greatest_of_both first second) ∙ sym (of_three levels (greatest_of first) (greatest_of second))
 
-pub greatest_with : (all : List Levels) (levels : Levels) → greatest (all ++ levels ∷ []) ≡ greater_of (greatest all) levels
-greatest_with all levels = greatest_of_both all (levels ∷ []) ∙ ap (greater_of (greatest all)) (with_none levels)
+pub greatest_with : (all : List Levels) (levels : Levels) → greatest_of (all ++ levels ∷ []) ≡ greater_of (greatest_of all) levels
+greatest_with all levels = greatest_of_both all (levels ∷ []) ∙ ap (greater_of (greatest_of all)) (with_none levels)

@@ -1,7 +1,7 @@
 -- The columns of a chart: each has the largest levels of the same number of successive events.
 use Rattle.std.specs.Prelude.{ℕ, ◌≡◌, ◌⊎◌, ◌≤◌, ◌<◌, min, ◌+◌, ◌-◌, ◌*◌, ◌^◌, ◌==◌, nat_lt, List, [], ◌∷◌, ◌++◌, length, if◌then◌else◌}
 use Rattle.cc_heap.specs.declared.levels.Levels.{Levels}
-use Rattle.cc_heap.specs.Levels.{greater_of, greatest, no_levels}
+use Rattle.cc_heap.specs.Levels.{greater_of, greatest_of, no_levels}
 
 -- A chart: the full columns, each of `width` events, the largest levels of the events after them, and
 -- the number of these.
@@ -64,7 +64,7 @@ abbrev pub AreColumns : (width : ℕ) → (columns events remaining : List Level
 AreColumns width [] events remaining = events ≡ remaining
 AreColumns width (column ∷ columns) events remaining =
     (mine : List Levels) × (others : List Levels) × (events ≡ mine ++ others) × (length mine ≡ width)
-    × (column ≡ greatest mine) × AreColumns width columns others remaining
+    × (column ≡ greatest_of mine) × AreColumns width columns others remaining
 
 -- IsChartOf holds if the chart shows the events: each in a column, the last ones in the current column, which
 -- is not full. There are fewer than 256 full columns. A column has one event, or a higher power of two of them,
@@ -72,7 +72,7 @@ AreColumns width (column ∷ columns) events remaining =
 pub record IsChartOf (events : List Levels) (chart : Chart) : Type 0 where
   pub remaining : List Levels
   pub columns : AreColumns chart.width chart.columns events remaining
-  pub current : chart.current ≡ greatest remaining
+  pub current : chart.current ≡ greatest_of remaining
   pub filled : chart.filled ≡ length remaining
   pub not_full : chart.filled < chart.width
   pub few : length chart.columns < 256

@@ -6,7 +6,7 @@ use Rattle.cc_io.specs.Numbered.{line_with_decimal, with_decimal}
 use Rattle.cc_heap.specs.declared.curves.Curve.{Curve}
 use Rattle.cc_heap.specs.declared.curves.Curve.TheVariants.{Live, Quarantine, Held, High}
 use Rattle.cc_heap.specs.declared.levels.Levels.{Levels}
-use Rattle.cc_heap.specs.Levels.{greatest}
+use Rattle.cc_heap.specs.Levels.{greatest_of}
 use Rattle.cc_heap.specs.Chart.{Chart, drawn_columns, event_count}
 use Rattle.cc_heap.specs.Scale.{Scale, down_to, event_step, reach_of, right_to, scale_of, step_count, step_power}
 
@@ -132,7 +132,7 @@ drawing_of caption events width columns =
     opening_text (codes "width='800' height='440' viewBox='-1050 -700 8000 4400' font-family='sans-serif' font-size='120'")
     ++ markup (codes "<title>The heap of a trace</title>\n") ++ chart_counts_text events width
     ++ sheet_text (codes "x='-1050' y='-700' width='8000' height='4400'")
-    ++ scaled_text (scale_of (reach_of (greatest columns)) events width) (reach_of (greatest columns)) columns
+    ++ scaled_text (scale_of (reach_of (greatest_of columns)) events width) (reach_of (greatest_of columns)) columns
     ++ caption_text caption ++ chart_legend_text ++ markup (codes "<path d='M0,0V3200H6400' fill='none' stroke='#000' stroke-width='16'/>\n")
     ++ markup (codes "<text x='3200' y='3580' text-anchor='middle'>events</text>\n</svg>\n")
 

@@ -16,6 +16,6 @@ greater_of first second = record {
 }
 
 -- The largest of each of the numbers, and 0 over no levels.
-abbrev pub greatest : List Levels → Levels
-greatest [] = no_levels
-greatest (levels ∷ others) = greater_of levels (greatest others)
+abbrev pub greatest_of : List Levels → Levels
+greatest_of [] = no_levels
+greatest_of (levels ∷ others) = greater_of levels (greatest_of others)

@@ -4,13 +4,13 @@ ghost use Rattle.cc_io.specs.Devices.{SendsBytes};
 ghost use Rattle.cc_heap.specs.ChartDrawing.{byte_label, byte_labels, byte_unit, chart_text, chart_counts_text};
 ghost use Rattle.cc_heap.specs.ChartDrawing.{drawing_of, entry_text, event_label, event_labels, event_letter};
 ghost use Rattle.cc_heap.specs.ChartDrawing.{caption_text, event_unit, labels_text, chart_legend_text, scaled_text};
-ghost use Rattle.cc_heap.specs.Levels.{greatest};
+ghost use Rattle.cc_heap.specs.Levels.{greatest_of};
 ghost use Rattle.cc_heap.specs.Scale.{event_step, reach_of, right_to, scale_of, step_count, step_power};
 
 use crate::axes::{event_step, power_of_two, reach_of, step_count, step_power};
 use crate::chart::Chart;
 use crate::curves::{Curve, push_curves, stroke};
-use crate::levels::{Levels, greatest};
+use crate::levels::{Levels, greatest_of};
 use crate::scale::Scale;
 use cc_io::{
     IoError, Page, Sink, end_with_decimal, push_decimal, push_markup, push_opening, push_sheet,
@@ -93,11 +93,11 @@ fn push_scaled<const N: usize>(page: &mut Page<N>, events: u128, width: u64, col
     requires few { length columns.now ≤ 256 }
     requires fits { events ≤ 2 ^ 73 }
     requires room { length page.old + 92000 ≤ N }
-    ensures value { page.new ≡ page.old ++ scaled_text (scale_of (reach_of (greatest columns.now)) events width)
-        (reach_of (greatest columns.now)) columns.now }
+    ensures value { page.new ≡ page.old ++ scaled_text (scale_of (reach_of (greatest_of columns.now)) events width)
+        (reach_of (greatest_of columns.now)) columns.now }
     ensures fits { length page.new ≤ length page.old + 92000 }
 {
-    let reach = reach_of(greatest(columns));
+    let reach = reach_of(greatest_of(columns));
     let scale = Scale::new(reach, events, width);
     push_labels(page, &scale, reach);
     push_curves(page, &scale, columns);

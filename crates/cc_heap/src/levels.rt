@@ -1,6 +1,6 @@
 //! The numbers of bytes of a heap that a chart shows.
 ghost use Rattle.std.specs.Prelude.{◌≡◌};
-ghost use Rattle.cc_heap.specs.Levels.{greater_of, greatest};
+ghost use Rattle.cc_heap.specs.Levels.{greater_of, greatest_of};
 
 /// The numbers of bytes of a heap that a chart shows.
 #[derive(Clone, Copy, Default)]
@@ -39,8 +39,8 @@ impl Levels {
 
 /// Returns the largest of each of the numbers.
 #[tactic(auto, using(crate::proofs::LevelLemmas::greatest_after))]
-pub(crate) fn greatest(all: &[Levels]) -> Levels
-    ensures { result ≡ greatest all.now }
+pub(crate) fn greatest_of(all: &[Levels]) -> Levels
+    ensures { result ≡ greatest_of all.now }
 {
     let mut most = NO_LEVELS;
     let mut rest = all;

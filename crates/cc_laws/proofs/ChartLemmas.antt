@@ -1,7 +1,7 @@
 -- A chart shows all its events.
 use Rattle.std.proofs.Common.{◌≡◌, ◌∙◌, ◌⊎◌, inl, inr, ℕ, Bool, true, false, zero, suc, ◌+◌, ◌-◌, ◌*◌, ◌^◌, ◌<◌, ◌≤◌, min, nat_lt, ◌==◌, List, [], ◌∷◌, ◌++◌, length, arith, ap, refl, subst, sym}
 use Rattle.cc_heap.specs.declared.levels.Levels.{Levels}
-use Rattle.cc_heap.specs.Levels.{greater_of, greatest, no_levels}
+use Rattle.cc_heap.specs.Levels.{greater_of, greatest_of, no_levels}
 use Rattle.cc_heap.specs.Chart.{AreColumns, Chart, IsChartOf, halved_if_full, joined, no_chart, with_event, with_events}
 use Rattle.cc_heap.proofs.LevelLemmas.{greatest_of_both, greatest_with}
 
@@ -36,7 +36,7 @@ one_more width (column ∷ columns) events remaining levels (mine, others, is, l
 
 -- the remaining events become a column
 closes : (width : ℕ) (columns events remaining : List Levels) → length remaining ≡ width → AreColumns width columns events remaining
-    → AreColumns width (columns ++ greatest remaining ∷ []) events []
+    → AreColumns width (columns ++ greatest_of remaining ∷ []) events []
 closes width [] events remaining full same = (remaining, [], same ∙ sym (append_none remaining), full, refl, refl)
 closes width (column ∷ columns) events remaining full (mine, others, is, len, most, rest) =
     (mine, others, is, len, most, closes width columns others remaining full rest)
@@ -133,7 +133,7 @@ adds events chart levels few is =
     grown : chart.filled + 1 ≡ length (is.remaining ++ levels ∷ [])
     grown = omega (arith, is.filled, append_length is.remaining (levels ∷ []))
 
-    most : greater_of chart.current levels ≡ greatest (is.remaining ++ levels ∷ [])
+    most : greater_of chart.current levels ≡ greatest_of (is.remaining ++ levels ∷ [])
     most = ap (λ (c : Levels). greater_of c levels) is.current ∙ sym (greatest_with is.remaining levels)
 
     by_room : (room : Bool) → nat_lt (chart.filled + 1) chart.width ≡ room → IsChartOf (events ++ levels ∷ []) (with_event levels chart)

@@ -12,7 +12,7 @@ use Rattle.cc_placer.specs.declared.event.Event.{Event}
 use Rattle.cc_placer.specs.declared.event.Event.TheVariants.{Clock}
 use Rattle.cc_heap.specs.declared.levels.Levels.{Levels}
 use Rattle.cc_heap.specs.Chart.{IsChartOf, no_chart}
-use Rattle.cc_heap.specs.Levels.{greatest, no_levels}
+use Rattle.cc_heap.specs.Levels.{greatest_of, no_levels}
 use Rattle.cc_replay.specs.declared.reading.Progress.TheVariants.{Running}
 use Rattle.cc_replay.specs.declared.reading.Reading.{Reading}
 use Rattle.cc_heap.specs.declared.settings.Settings.{Settings}
@@ -44,11 +44,11 @@ event-breaks levels = none-shown levels []
 pub levels-break : (levels : Levels) → 0 < levels.live → ¬ IsChartOf (levels ∷ []) (record no_chart { columns = no_levels ∷ [] })
 levels-break levels some shows = by_column shows.columns.0 shows.columns.1 shows.columns.2 shows.columns.3 shows.columns.4
   where
-    by_column : (mine others : List Levels) → levels ∷ [] ≡ mine ++ others → length mine ≡ 1 → no_levels ≡ greatest mine → ⊥
+    by_column : (mine others : List Levels) → levels ∷ [] ≡ mine ++ others → length mine ≡ 1 → no_levels ≡ greatest_of mine → ⊥
     by_column [] others parts one is = absurd (omega (arith, one))
     by_column (first ∷ []) others parts one is =
         let same : levels ≡ first = (let e = parts in cc) in
-        let live : 0 ≡ (greatest (first ∷ [])).live = ap (λ (l : Levels). l.live) is in
+        let live : 0 ≡ (greatest_of (first ∷ [])).live = ap (λ (l : Levels). l.live) is in
         let first_live : levels.live ≡ first.live = ap (λ (l : Levels). l.live) same in
         absurd (omega (arith, live, first_live, some))
     by_column (first ∷ second ∷ more) others parts one is = absurd (omega (arith, one))
