@@ -4,25 +4,16 @@ ghost use Rattle.std.specs.Prelude.{
   ◌+◌,
   ◌≤◌,
   ◌++◌,
-  ◌↔◌,
   [],
   codes,
   decimal,
-  false,
   true,
   length,
-  IfOk,
-  IsErr,
-  IsTrue,
-  OnErr,
-  OnOk,
   if◌then◌else◌,
 };
 ghost use Rattle.cc_word.specs.Word.{bit_of, word_of};
-ghost use Rattle.cc_word.specs.WordText.{IsWordText, digits_of, hexadecimal};
-ghost use Rattle.cc_io.specs.CommandOutput.{WritesAnswer};
+ghost use Rattle.cc_word.specs.WordText.{digits_of, hexadecimal};
 ghost use Rattle.cc_explain.specs.Listing.{
-  IsListing,
   IsWordListing,
   bounds_lines_of,
   field_lines_of,
@@ -32,50 +23,8 @@ ghost use Rattle.cc_io.specs.Permissions.{permissions_text};
 
 use bitflags::Flags;
 use cc_cap::{Decoded, Perms};
-use cc_io::{
-    IoError, Line, MOST_TEXT, Sink, Summary, Text, push_permissions, push_refusal, write_and_flush,
-};
-use cc_word::{Fields, Refusal, read_word};
-
-/// Writes the listing of a word, and flushes the sink once after the last line.
-///
-/// The listing has thirteen lines: the word, its eight fields, the exponent, base and top that they
-/// decode to, and whether the word is canonical. A word is 32 hexadecimal digits of either case,
-/// without `0x` in front. For any other string, the output is the line `error 1 syntax`.
-///
-/// Requires: the sink has not failed.
-/// Errors: `Write` if and only if the sink fails. A prefix of the output is then written.
-pub fn show_word<W: Sink>(text: &[u8], sink: &mut W) -> Result<Summary, IoError>
-    requires { (W.state sink.old).has_failed ≡ false }
-    ensures shown { WritesAnswer (IsListing text.now) (W.state sink.old) (W.state sink.new) result }
-    ensures any_error { IfOk result (λ summary. IsTrue summary.any_error ↔ (¬ IsWordText text.now)) }
-{
-    let mut answer = Text::new();
-    let summary = push_answer(&mut answer, text);
-    match write_and_flush(&answer, sink) {
-        Ok(()) => Ok(summary),
-        Err(error) => Err(error),
-    }
-}
-
-/// Appends the listing of the word, or the refusal of a string that is not a word. The summary
-/// reports an error if and only if the string is not a word.
-fn push_answer(answer: &mut Text, text: &[u8]) -> Summary
-    requires { answer.old ≡ [] }
-    ensures listing { IsListing text.now answer.new }
-    ensures any_error { IsTrue result.any_error ↔ (¬ IsWordText text.now) }
-{
-    match read_word(text) {
-        Some(word) => {
-            push_listing(answer, word);
-            Summary { any_error: false }
-        }
-        None => {
-            push_refusal(answer, Refusal::Syntax);
-            Summary { any_error: true }
-        }
-    }
-}
+use cc_io::{Line, MOST_TEXT, Text, push_permissions};
+use cc_word::Fields;
 
 /// Puts the listing of a word into an empty text: the word, its eight fields, the exponent, base and
 /// top that they decode to, and whether the word is canonical.

@@ -1,12 +1,58 @@
-//! The output of `show` in a format of `decode`.
+//! The output of `show`: the listing of a word, or its row in a format of `decode`.
 ghost use Rattle.std.specs.Prelude.{◌≡◌, ◌↔◌, [], false, IfOk, IsTrue};
+ghost use Rattle.cc_word.specs.WordText.{IsWordText};
 ghost use Rattle.cc_io.specs.CommandOutput.{IsTypedWord, WritesAnswer};
+ghost use Rattle.cc_explain.specs.Listing.{IsListing};
 ghost use Rattle.cc_explain.specs.Output.{IsShown};
 
 use crate::decoder::PlainDecoder;
 use crate::decoding::header;
+use crate::listing::push_listing;
 use crate::writers::Batch;
-use cc_io::{Answerer, Format, InputForm, IoError, Sink, Summary, write_and_flush};
+use cc_io::{
+    Answerer, Format, InputForm, IoError, Sink, Summary, Text, push_refusal, write_and_flush,
+};
+use cc_word::{Refusal, read_word};
+
+/// Writes the listing of a word, and flushes the sink once after the last line.
+///
+/// The listing has thirteen lines: the word, its eight fields, the exponent, base and top that they
+/// decode to, and whether the word is canonical. A word is 32 hexadecimal digits of either case,
+/// without `0x` in front. For any other string, the output is the line `error 1 syntax`.
+///
+/// Requires: the sink has not failed.
+/// Errors: `Write` if and only if the sink fails. A prefix of the output is then written.
+pub fn show_word<W: Sink>(text: &[u8], sink: &mut W) -> Result<Summary, IoError>
+    requires { (W.state sink.old).has_failed ≡ false }
+    ensures shown { WritesAnswer (IsListing text.now) (W.state sink.old) (W.state sink.new) result }
+    ensures any_error { IfOk result (λ summary. IsTrue summary.any_error ↔ (¬ IsWordText text.now)) }
+{
+    let mut answer = Text::new();
+    let summary = push_answer(&mut answer, text);
+    match write_and_flush(&answer, sink) {
+        Ok(()) => Ok(summary),
+        Err(error) => Err(error),
+    }
+}
+
+/// Appends the listing of the word, or the refusal of a string that is not a word. The summary
+/// reports an error if and only if the string is not a word.
+fn push_answer(answer: &mut Text, text: &[u8]) -> Summary
+    requires { answer.old ≡ [] }
+    ensures listing { IsListing text.now answer.new }
+    ensures any_error { IsTrue result.any_error ↔ (¬ IsWordText text.now) }
+{
+    match read_word(text) {
+        Some(word) => {
+            push_listing(answer, word);
+            Summary { any_error: false }
+        }
+        None => {
+            push_refusal(answer, Refusal::Syntax);
+            Summary { any_error: true }
+        }
+    }
+}
 
 /// Writes the header of a format, and then the reply of [`decode_words`](crate::decode_words) to a
 /// line that is this string: the row of its word, or the refusal `syntax` in this format. Flushes

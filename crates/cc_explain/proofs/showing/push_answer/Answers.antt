@@ -1,7 +1,7 @@
 use Rattle.std.proofs.Common.{ℕ, inl, inr, refl, subst}
 use Rattle.std.proofs.lemmas.Bool.{false≢true}
 use Rattle.cc_explain.specs.Listing.{IsWordListing}
-use Rattle.cc_explain.proofs.listing.push_answer.Goals as goal
+use Rattle.cc_explain.proofs.showing.push_answer.Goals as goal
 
 pub returns-in-Some-clause-listing : goal.returns-in-Some-clause-listing
 returns-in-Some-clause-listing c =
