@@ -23,7 +23,7 @@ ghost use Rattle.cc_io.specs.Permissions.{permissions_text};
 
 use bitflags::Flags;
 use cc_cap::{Decoded, Perms};
-use cc_io::{Line, MOST_TEXT, Text, push_permissions};
+use cc_io::{MOST_TEXT, Text, push_permissions};
 use cc_word::Fields;
 
 /// Puts the listing of a word into an empty text: the word, its eight fields, the exponent, base and
@@ -112,9 +112,8 @@ fn push_permissions_line(text: &mut Text, perms: u16)
     push_name(text, b"perms");
     text.push_digits(u128::from(perms), 4);
     text.push(b" ");
-    let mut names = Line::new();
-    push_permissions(&mut names, Perms::from_bits_retain(perms));
-    text.push_line(&names);
+    push_permissions(text, Perms::from_bits_retain(perms));
+    text.push(b"\n");
 }
 
 /// Appends the start of a line: its name and a space.

@@ -19,7 +19,7 @@ ghost use Rattle.cc_word.specs.Word.{bit_of};
 ghost use Rattle.cc_word.specs.WordText.{digits_of, hexadecimal};
 ghost use Rattle.cc_cap.specs.LineText.{letter_of, letters_of, word_line_of, marks_of};
 ghost use Rattle.cc_word.specs.Permissions.{bits_of};
-ghost use Rattle.cc_io.specs.Permissions.{permissions_array, permissions_text};
+ghost use Rattle.cc_io.specs.Permissions.{permissions_text};
 ghost use Rattle.cc_explain.specs.Decoder.{AppendsLine, AppendsRow, most_line, most_row};
 ghost use Rattle.cc_explain.specs.Row.{columns_text, csv_text, fixed_text, json_bounds, json_rights, json_text, padded};
 ghost use Rattle.cc_explain.specs.Row.{values_text};
@@ -29,7 +29,7 @@ use crate::writers::{Batch, push_byte, push_byte_if, push_decimal, push_padded};
 use bitflags::Flags;
 use cc_bounds::Span;
 use cc_cap::Decoded;
-use cc_io::{Format, Line, push_permissions, push_permissions_array};
+use cc_io::{Format, push_permissions, push_permissions_array};
 use cc_word::{Fields, Perms, SENTRY_TYPE, UNSEALED_TYPE, write_half};
 use std::simd::prelude::*;
 
@@ -257,24 +257,13 @@ fn push_json_rights(batch: &mut Batch, word: u128, fields: &Fields)
     cc_io::push_digits(batch, b"\"word\":\"", word, 32);
     cc_io::push_digits(batch, b"\",\"perms\":\"", u128::from(fields.perms), 4);
     batch.push(b"\",\"names\":");
-    push_names_array(batch, fields.perms);
+    push_permissions_array(batch, Perms::from_bits_retain(fields.perms));
     batch.push(b",\"reserved\":");
     push_decimal(batch, fields.reserved);
     batch.push(b",\"flag\":");
     push_decimal(batch, u8::from(fields.flag));
     cc_io::push_digits(batch, b",\"type\":\"", u128::from(fields.otype), 5);
     push_byte(batch, b'"');
-}
-
-/// Appends the names of the permissions from bit 0 up, as an array.
-fn push_names_array(batch: &mut Batch, perms: u16)
-    requires { length batch.old + 159 ≤ 32768 }
-    ensures value { batch.new ≡ batch.old ++ permissions_array perms }
-    ensures fits { length batch.new ≤ length batch.old + 159 }
-{
-    let mut names = Line::new();
-    push_permissions_array(&mut names, Perms::from_bits_retain(perms));
-    batch.push(names.bytes());
 }
 
 /// Appends the members of the address, the exponent and the bounds, after a comma.
@@ -305,18 +294,7 @@ fn push_address_and_names(batch: &mut Batch, address: u64, perms: u16)
     push_byte(batch, b',');
     batch.push_hexadecimal(u128::from(address));
     push_byte(batch, b',');
-    push_names(batch, perms);
-}
-
-/// Appends the names of the permissions from bit 0 up, joined by `+`, or `-` for none.
-fn push_names(batch: &mut Batch, perms: u16)
-    requires { length batch.old + 125 ≤ 32768 }
-    ensures value { batch.new ≡ batch.old ++ permissions_text perms }
-    ensures fits { length batch.new ≤ length batch.old + 125 }
-{
-    let mut names = Line::new();
-    push_permissions(&mut names, Perms::from_bits_retain(perms));
-    batch.push(names.bytes());
+    push_permissions(batch, Perms::from_bits_retain(perms));
 }
 
 /// Appends the eight values of a decoded word, and a separator between each two.

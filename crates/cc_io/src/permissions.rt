@@ -5,17 +5,17 @@ ghost use Rattle.cc_word.specs.Permissions.{bits_of};
 ghost use Rattle.cc_io.specs.Permissions.{in_quotes, names_length, names_of_set, permissions_array, permissions_text};
 ghost use Rattle.cc_io.specs.Permissions.{rows_of};
 
-use crate::page::Line;
+use crate::page::Page;
 use bitflags::{Flag, Flags};
 use cc_word::Perms;
 
 /// Appends the names of the permissions from bit 0 up, joined by `+`, or `-` if there are none: at
 /// most 125 bytes.
 ///
-/// Requires: 125 bytes of the line are free.
+/// Requires: 125 bytes of the page are free.
 #[tactic(auto, unfolding(crate::specs::Permissions::permissions_text))]
-pub fn push_permissions(line: &mut Line, perms: Perms)
-    requires { length line.old + 125 ≤ 192 }
+pub fn push_permissions<const N: usize>(line: &mut Page<N>, perms: Perms)
+    requires { length line.old + 125 ≤ N }
     ensures value { line.new ≡ line.old ++ permissions_text (bits_of perms) }
     ensures fits { length line.new ≤ length line.old + 125 }
 {
@@ -28,10 +28,10 @@ pub fn push_permissions(line: &mut Line, perms: Perms)
 
 /// Appends the names of the permissions from bit 0 up as an array of JSON: at most 159 bytes.
 ///
-/// Requires: 159 bytes of the line are free.
+/// Requires: 159 bytes of the page are free.
 #[tactic(auto, unfolding(crate::specs::Permissions::permissions_array))]
-pub fn push_permissions_array(line: &mut Line, perms: Perms)
-    requires { length line.old + 159 ≤ 192 }
+pub fn push_permissions_array<const N: usize>(line: &mut Page<N>, perms: Perms)
+    requires { length line.old + 159 ≤ N }
     ensures value { line.new ≡ line.old ++ permissions_array (bits_of perms) }
     ensures fits { length line.new ≤ length line.old + 159 }
 {
@@ -42,8 +42,14 @@ pub fn push_permissions_array(line: &mut Line, perms: Perms)
 
 /// Appends the names of those of the flags that the set has, each in these quotation marks, joined by
 /// this separator.
-fn push_names(line: &mut Line, perms: Perms, flags: &[Flag<Perms>], quote: &[u8], between: &[u8])
-    requires { length line.old + names_length (2 * length quote.now + length between.now) (rows_of flags.now) ≤ 192 }
+fn push_names<const N: usize>(
+    line: &mut Page<N>,
+    perms: Perms,
+    flags: &[Flag<Perms>],
+    quote: &[u8],
+    between: &[u8],
+)
+    requires { length line.old + names_length (2 * length quote.now + length between.now) (rows_of flags.now) ≤ N }
     ensures value { line.new ≡ line.old
         ++ join_by (in_quotes quote.now) between.now (names_of_set (bits_of perms) (rows_of flags.now)) }
     ensures fits { length line.new
@@ -59,8 +65,8 @@ fn push_names(line: &mut Line, perms: Perms, flags: &[Flag<Perms>], quote: &[u8]
 }
 
 /// Appends a separator, and then a name in quotation marks.
-fn push_quoted(line: &mut Line, separator: &[u8], quote: &[u8], name: &[u8])
-    requires { length line.old + length separator.now + 2 * length quote.now + length name.now ≤ 192 }
+fn push_quoted<const N: usize>(line: &mut Page<N>, separator: &[u8], quote: &[u8], name: &[u8])
+    requires { length line.old + length separator.now + 2 * length quote.now + length name.now ≤ N }
     ensures value { line.new ≡ line.old ++ separator.now ++ in_quotes quote.now name.now }
     ensures fits { length line.new ≡ length line.old + length separator.now + 2 * length quote.now + length name.now }
 {

@@ -7,7 +7,7 @@ ghost use Rattle.cc_word.specs.Refusal.{code_of};
 use crate::texts::put;
 use bitflags::Flags;
 use cc_cap::Perms;
-use cc_io::{Line, MOST_TEXT, Text, push_permissions, push_refusal};
+use cc_io::{MOST_TEXT, Text, push_permissions, push_refusal};
 use cc_word::Refusal;
 
 /// Writes the names of permissions, joined by `+`, or `-` for none, to the start of the bytes, and
@@ -17,10 +17,8 @@ pub extern "C" fn cheri_page_permissions(perms: u16, bytes: &mut [u8; MOST_TEXT]
     ensures text { Holds (λ text. text ≡ permissions_text perms) bytes.new result }
     ensures rest { drop result bytes.new ≡ drop result bytes.old }
 {
-    let mut line = Line::new();
-    push_permissions(&mut line, Perms::from_bits_retain(perms));
     let mut text = Text::new();
-    text.push(line.bytes());
+    push_permissions(&mut text, Perms::from_bits_retain(perms));
     put(&text, bytes)
 }
 

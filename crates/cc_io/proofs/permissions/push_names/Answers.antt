@@ -8,14 +8,14 @@ use Rattle.cc_io.proofs.permissions.push_names.Goals.{then-contains, else-contai
 use Rattle.cc_io.proofs.permissions.push_names.Goals as goal
 
 pub loop-flag-init : goal.loop-flag-init
-loop-flag-init c = record {
+loop-flag-init g c = record {
   text = ap (λ (l : List ℕ). c.args.line.now ++ l) (separated-none c.args.quote.now c.args.between.now (names_of_set (bits_of c.args.perms) (rows_of c.args.flags.now)));
   room = omega arith;
   short = omega arith;
 }
 
 pub push_quoted-requires : goal.push_quoted-requires
-push_quoted-requires c =
+push_quoted-requires g c =
     let next = next_room (2 * length c.args.quote.now + length c.args.between.now) c.args.flags.now c.loop-flag.flag-index c.loop-flag-test.true in
     omega (
       arith,
@@ -28,7 +28,7 @@ push_quoted-requires c =
     )
 
 pub loop-flag-preserved : goal.loop-flag-preserved
-loop-flag-preserved c =
+loop-flag-preserved g c =
     let i = c.loop-flag.invariant in
     let flags = c.args.flags.now in
     let bits = bits_of c.args.perms in
@@ -58,6 +58,6 @@ loop-flag-preserved c =
     ]
 
 pub returns-clause-value : goal.returns-clause-value
-returns-clause-value c =
+returns-clause-value g c =
     none_left c.args.quote.now c.args.between.now c.loop-flag.line c.loop-flag.separator.now _ (bits_of c.args.perms) c.loop-flag.flag-index c.args.flags.now
     c.loop-flag-test.false c.loop-flag.invariant.text

@@ -9,7 +9,7 @@ use Rattle.cc_io.proofs.permissions.push_permissions.Goals as goal
 
 pub returns-else-bits-eq0-clause-value : goal.returns-else-bits-eq0-clause-value
 unfolding permissions_text
-returns-else-bits-eq0-clause-value c =
+returns-else-bits-eq0-clause-value g c =
     let rows : rows_of c.flags.result.now ≡ permission_table = search rules in
     let some = ne_eqb (bits_of c.args.perms) 0 (search rules) in
     rw some
