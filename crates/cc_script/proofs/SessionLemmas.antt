@@ -1,6 +1,7 @@
 -- The output and the counts of a session, from the output of the engine of cc_io.
-use Rattle.std.proofs.Common.{◌≡◌, ℕ, ◌<◌, ◌≤◌, ◌+◌, List, [], ◌∷◌, ◌++◌, length, take, drop, map, refl, sym, ◌∙◌, ap, subst, append_assoc, append-nil, arith, Bool, true, false, ◌||◌, Option}
+use Rattle.std.proofs.Common.{◌≡◌, ℕ, ◌<◌, ◌≤◌, ◌+◌, List, [], ◌∷◌, ◌++◌, length, take, drop, map, refl, sym, ◌∙◌, ap, subst, append_assoc, append-nil, arith, Bool, false, ◌||◌, Option}
 use Rattle.std.proofs.Common.{OnOk, Result, Ok, Err, slice_index_or, inl, inr}
+use Rattle.std.proofs.Math.Bool.{or-false}
 use Rattle.std.proofs.lemmas.List.{map-append, take_all, take_more, take-append-drop}
 use Rattle.std.proofs.lemmas.List.Folds.{list_any-append}
 use Rattle.std.specs.Io.KnownBytes.{Appends}
@@ -9,6 +10,7 @@ use Rattle.cc_word.specs.declared.refusal.Refusal.{Refusal}
 use Rattle.cc_values.specs.declared.op.Op.{Op}
 use Rattle.cc_values.specs.declared.reply.Reply.{Reply}
 use Rattle.cc_machine.specs.State.{State}
+use Rattle.cc_machine.specs.Step.{Step}
 use Rattle.cc_io.proofs.ServingLemmas.{runs_through}
 use Rattle.cc_io.specs.Answers.{Answer, AnswersAll, EndsWith, seen}
 use Rattle.cc_io.specs.Correct.{Pumps, PumpsText}
@@ -24,7 +26,7 @@ use Rattle.cc_syntax.specs.Replies.{reply_text, is_error}
 use Rattle.cc_script.proofs.ReplyLemmas.{takes_further, replies_text-append}
 use Rattle.cc_script.proofs.RunningLemmas.{all_opened, io, joined, pumps_script, runs_script, start_enough, stops_waiting}
 use Rattle.cc_script.specs.Failures.{StopsInReplies}
-use Rattle.cc_script.specs.Running.{CountsRun, Opens, RunsSession, TakesOperation, exchanges_of, rest_exchange}
+use Rattle.cc_script.specs.Running.{CountsRun, Opens, RunsSession, exchanges_of, rest_exchange}
 use Rattle.cc_machine.specs.Run.{IsReached}
 use Rattle.cc_script.specs.Session.{AnswersLine, RefusesScriptRest, HasSameMachine}
 use Rattle.cc_script.specs.declared.session.Session.{Session}
@@ -34,10 +36,6 @@ use Rattle.cc_io.specs.Engine.{PassesPage}
 use Rattle.cc_syntax.specs.Tally.{Exchange, IsTally}
 
 -- ---- the setup operations
-
-or_false : (b : Bool) → b ≡ (b || false)
-or_false true = refl
-or_false false = refl
 
 no_bytes : {A : Type 0} (l : List ℕ) → l ≡ [] → 0 < length l → A
 no_bytes {A} l none some = absurd (omega (arith, some, ap (λ (x : List ℕ). length x) none))
@@ -92,9 +90,10 @@ next_taken ops i op within is = take_more ops i op within ∙ ap (λ (o : Op). t
 
 pub opens_more : (room : ℕ) (old a b : State) (tally counts counts_now : Tally) (ops : List Op) (i : ℕ) (op : Op) (page page_now : List ℕ) (t u : Option (List ℕ)) (e f : Bool)
     → Opens room old tally (take i ops) page t u e a counts → i < length ops → op ≡ slice_index_or ops i op → length page + 193 ≤ room
-    → TakesOperation a counts op page page_now f b counts_now → length page_now ≤ length page + 193
-    → Opens room old tally (take (i + 1) ops) page_now t u (e || f) b counts_now
-opens_more room old a b tally counts counts_now ops i op page page_now t u e f o within is space p fits = record {
+    → (reply : Reply) → Step a op reply b → page_now ≡ page ++ with_line_feed (reply_text reply) → length page_now ≤ length page + 193 → f ≡ (e || is_error reply)
+    → ((opening : List Reply) → IsTally opening [] counts → IsTally (opening ++ reply ∷ []) [] counts_now)
+    → Opens room old tally (take (i + 1) ops) page_now t u f b counts_now
+opens_more room old a b tally counts counts_now ops i op page page_now t u e f o within is space reply step page_is fits error_is counted = record {
   earlier = o.earlier;
   on_page = o.on_page ++ op ∷ [];
   ops_are = next_taken ops i op within is ∙ ap (λ (l : List Op). l ++ op ∷ []) o.ops_are ∙ append_assoc o.earlier o.on_page (op ∷ []);
@@ -102,22 +101,24 @@ opens_more room old a b tally counts counts_now ops i op page page_now t u e f o
   mid = o.mid;
   before = o.before;
   written = o.written;
-  waiting = o.waiting ++ p.reply ∷ [];
+  waiting = o.waiting ++ reply ∷ [];
   takes = rw (map-append {B = Result Op Refusal} Ok o.on_page (op ∷ []))
-      (takes_further o.mid a b (map Ok o.on_page) (Ok op ∷ []) o.waiting (p.reply ∷ []) o.takes (b, p.step, refl));
+      (takes_further o.mid a b (map Ok o.on_page) (Ok op ∷ []) o.waiting (reply ∷ []) o.takes (b, step, refl));
   page_is =
-      p.page_is ∙ ap (λ (l : List ℕ). l ++ with_line_feed (reply_text p.reply)) o.page_is
-      ∙ ap (λ (l : List ℕ). replies_text o.waiting ++ l) (sym (append-nil (with_line_feed (reply_text p.reply))))
-      ∙ sym (replies_text-append o.waiting (p.reply ∷ []));
+      page_is ∙ ap (λ (l : List ℕ). l ++ with_line_feed (reply_text reply)) o.page_is
+      ∙ ap (λ (l : List ℕ). replies_text o.waiting ++ l) (sym (append-nil (with_line_feed (reply_text reply))))
+      ∙ sym (replies_text-append o.waiting (reply ∷ []));
   fits = omega (arith, space, fits);
   last = λ some. record {
     first = o.waiting;
-    last = p.reply;
+    last = reply;
     replies_are = refl;
     fits = subst (λ (l : List ℕ). length l + 193 ≤ room) o.page_is space;
   };
-  error_is = rw (← append_assoc o.replies o.waiting (p.reply ∷ []), list_any-append is_error (o.replies ++ o.waiting) (p.reply ∷ []), ← o.error_is, ← or_false (is_error p.reply), ← p.error_is) refl;
-  counted = λ fresh. subst (λ (l : List Reply). IsTally l [] counts_now) (append_assoc o.replies o.waiting (p.reply ∷ [])) (p.counted (o.replies ++ o.waiting) (o.counted fresh));
+  error_is =
+      error_is
+      ∙ rw (← append_assoc o.replies o.waiting (reply ∷ []), list_any-append is_error (o.replies ++ o.waiting) (reply ∷ []), ← o.error_is, or-false (is_error reply)) refl;
+  counted = λ fresh. subst (λ (l : List Reply). IsTally l [] counts_now) (append_assoc o.replies o.waiting (reply ∷ [])) (counted (o.replies ++ o.waiting) (o.counted fresh));
 }
 
 -- The sink failed in the replies on the page.

@@ -10,23 +10,13 @@ use Rattle.cc_values.specs.declared.op.Op.{Op}
 use Rattle.cc_values.specs.declared.reply.Reply.{Reply}
 use Rattle.cc_values.specs.declared.reply.Reply.TheVariants.{Refused}
 use Rattle.cc_machine.specs.State.{State}
-use Rattle.cc_machine.specs.Step.{Step}
 use Rattle.cc_syntax.specs.Commands.{operation_of}
 use Rattle.cc_script.specs.Main.{IoState, Main}
 use Rattle.cc_script.specs.Failures.{Fails, LastReplyFits, StopsInReplies}
-use Rattle.cc_script.specs.Output.{TakesAll, with_line_feed, replies_text}
-use Rattle.cc_syntax.specs.Replies.{reply_text, is_error}
+use Rattle.cc_script.specs.Output.{TakesAll, replies_text}
+use Rattle.cc_syntax.specs.Replies.{is_error}
 use Rattle.cc_syntax.specs.Tally.{Exchange, IsTally}
 use Rattle.cc_syntax.specs.declared.tally.Tally.{Tally}
-
--- TakesOperation holds if the machine takes the operation, its reply is appended to the page, and
--- the tally counts it.
-pub record TakesOperation (old : State) (tally : Tally) (op : Op) (page page_now : List ℕ) (error : Bool) (new : State) (tally_now : Tally) : Type 0 where
-  pub reply : Reply
-  pub step : Step old op reply new
-  pub page_is : page_now ≡ page ++ with_line_feed (reply_text reply)
-  pub error_is : error ≡ is_error reply
-  pub counted : (opening : List Reply) → IsTally opening [] tally → IsTally (opening ++ reply ∷ []) [] tally_now
 
 -- Opens holds if the machine took the setup operations, the replies to the first of them were
 -- written, the page has the others, and the tally counts all.

@@ -55,9 +55,10 @@ impl<const N: usize> Taker<N> for Session<'_> {
 
 /// Executes an operation, and appends its reply and a line feed.
 ///
+/// Requires: 193 bytes fit the page.
 /// Errors: the refusal of the operation; the text is unchanged then.
 #[inline(always)]
-fn answer_op<const N: usize>(
+pub fn answer_op<const N: usize>(
     machine: &mut Machine,
     text: &mut Page<N>,
     op: &Op,

@@ -6,17 +6,17 @@ ghost use Rattle.cc_io.specs.Devices.{AreReady, IsOutcome};
 ghost use Rattle.cc_script.specs.Failures.{StopsInReplies};
 ghost use Rattle.cc_script.specs.Main.{io_of};
 ghost use Rattle.cc_script.specs.Laws.{KeepsLaws};
-ghost use Rattle.cc_script.specs.Running.{Opens, RunsSession, TakesOperation};
+ghost use Rattle.cc_script.specs.Running.{Opens, RunsSession};
 ghost use Rattle.cc_script.specs.Session.{AnswersLine, HasSameMachine, RefusesScriptRest};
 ghost use Rattle.cc_syntax.specs.Tally.{IsTally};
 
-use crate::answering::{answer_line, is_refusal};
+use crate::answering::{answer_line, answer_op};
 use crate::session::Session;
 use cc_io::{
     Answerer, Failed, IoError, Lines, Page, Sink, Source, Summary, make_room, pump, refusal_bytes,
 };
-use cc_machine::{Machine, Op};
-use cc_syntax::{Tally, push_any_reply};
+use cc_machine::{Machine, Op, Reply};
+use cc_syntax::Tally;
 use cc_word::Refusal;
 
 impl<const N: usize> Answerer<N> for Session<'_> {
@@ -146,26 +146,11 @@ fn take_opening<W: Sink, const N: usize>(
             Ok(()) => {}
             Err(Failed) => return Err(Failed),
         }
-        any_error |= take_operation(op, machine, tally, page);
+        if let Err(refusal) = answer_op(machine, page, op) {
+            page.push(refusal_bytes(refusal));
+            tally.take_opening(&Reply::Refused(refusal));
+            any_error = true;
+        }
     }
     Ok(any_error)
-}
-
-/// Steps the machine by an operation, and appends the reply and a line feed to the page. Returns
-/// whether the reply is an error.
-fn take_operation<const N: usize>(
-    op: &Op,
-    machine: &mut Machine,
-    tally: &mut Tally,
-    page: &mut Page<N>,
-) -> bool
-    requires { length page.old + 193 ≤ N }
-    ensures takes { TakesOperation machine.old tally.old op.now page.old page.new result machine.new tally.new }
-    ensures fits { length page.new ≤ length page.old + 193 }
-{
-    let reply = machine.step(op);
-    push_any_reply(page, &reply);
-    page.push(b"\n");
-    tally.take_opening(&reply);
-    is_refusal(&reply)
 }

@@ -194,6 +194,23 @@ counts_refused opening exchanges line refusal number old new one number_is was o
 
 -- ---- the tally
 
+-- Of the setup operations, no line has the number of the first.
+no_line : (some : Bool) → (if some then 0 else counted 0) ≡ 0
+no_line true = refl
+no_line false = refl
+
+-- One more reply to a setup operation, which is not a refusal.
+pub opening_taken : (opening : List Reply) (reply : Reply) (tally : Tally) → is_error reply ≡ false → IsTally opening [] tally → IsTally (opening ++ reply ∷ []) [] tally
+opening_taken opening reply tally is was = record {
+  lines = was.lines;
+  counts = λ refusal none.
+      let more = count_by-more (is_refusal refusal) opening reply false (no_refusal refusal reply is) in
+      was.counts refusal none ∙ same_count refusal _ _ _ _ (omega (arith, more)) (no_line _ ∙ sym (no_line _));
+  full = was.full;
+  carriage_return = was.carriage_return;
+  marked_word = was.marked_word;
+}
+
 -- One more line, whose reply is not a refusal.
 pub line_taken : (opening : List Reply) (exchanges : List Exchange) (line : List ℕ) (reply : Reply) (old : Tally) (lines : ℕ) → lines ≡ min (old.lines + 1) (2 ^ 64 - 1)
     → is_error reply ≡ false → IsTally opening exchanges old
