@@ -93,6 +93,18 @@ IsWordOf-read cap fields word bounds is_type perms reserved flag otype address i
   is_word = sym is_word;
 }
 
+-- the fields of a capability's word store its span
+pub IsWordOf-stores : (cap : Capability) (word : ℕ) (fields : Fields) (own : IsWordOf cap word) → own.fields ≡ fields
+    → StoresSpan fields cap.span
+IsWordOf-stores cap word fields own same =
+    let stores : StoresSpan own.fields cap.span = record {
+      is_span = own.is_capability.is_span;
+      sound = own.is_capability.sound;
+      bounds_fields = own.is_fields.bounds;
+      representable = subst (Represents cap.span) (sym own.is_fields.address) own.is_capability.representable;
+    } in
+    subst (λ (other : Fields). StoresSpan other cap.span) same stores
+
 -- ---- the bits of the reserved bits, the flag and the type
 
 -- a number with a bit turned stays below a power of two above the bit
