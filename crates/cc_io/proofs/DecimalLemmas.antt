@@ -1,5 +1,5 @@
 -- The decimal digits of numbers of few digits, two by two as they are printed.
-use Rattle.std.proofs.Common.{◌≡◌, Bool, false, ℕ, ◌+◌, ◌*◌, ◌/◌, ◌%◌, ◌^◌, ◌<◌, ◌≤◌, ◌==◌, true, refl, slice_index, List, [], ◌∷◌, ◌++◌, append_assoc, decimal, ap, ◌∙◌, arith}
+use Rattle.std.proofs.Common.{◌≡◌, Bool, false, ℕ, ◌+◌, ◌*◌, ◌/◌, ◌%◌, ◌^◌, ◌<◌, ◌≤◌, ◌==◌, true, refl, slice_index, List, [], ◌∷◌, ◌++◌, append_assoc, length, length-append, decimal, ap, ◌∙◌, arith}
 use Rattle.std.proofs.lemmas.Bool.{eqb-true, agree_below_at}
 use mir.Val.{bool_byte}
 use Rattle.cc_word.specs.Word.{bit_of}
@@ -99,6 +99,16 @@ in_two done a b whole e = append_assoc done a b ∙ ap (λ (l : List ℕ). done 
 
 pub in_three : (done a b c whole : List ℕ) → a ++ (b ++ c) ≡ whole → ((done ++ a) ++ b) ++ c ≡ done ++ whole
 in_three done a b c whole e = append_assoc (done ++ a) b c ∙ in_two done a (b ++ c) whole e
+
+-- what was appended in three pieces and a line feed
+pub in_line : (done a b c feed : List ℕ) → (((done ++ a) ++ b) ++ c) ++ feed ≡ done ++ (((a ++ b) ++ c) ++ feed)
+in_line done a b c feed =
+    ap (λ (l : List ℕ). (l ++ c) ++ feed) (append_assoc done a b) ∙ ap (λ (l : List ℕ). l ++ feed) (append_assoc done (a ++ b) c)
+    ∙ append_assoc done ((a ++ b) ++ c) feed
+
+-- the number of bytes after some were appended
+pub longer : (done bytes after : List ℕ) → after ≡ done ++ bytes → length after ≡ length done + length bytes
+longer done bytes after is = ap length is ∙ length-append done bytes
 
 -- the table of pairs has the two digits of each number
 pub first_listed : (n : ℕ) → n < 100 → slice_index PAIRS (2 * n) ≡ 48 + n / 10

@@ -1,6 +1,7 @@
-use Rattle.std.proofs.Common.{◌≡◌, ◌∙◌, ◌-◌, ◌+◌, ap, arith, ℕ, List, ◌++◌, length, length-append, take}
+use Rattle.std.proofs.Common.{rules, ◌≡◌, ◌∙◌, ◌-◌, ◌+◌, ap, arith, ℕ, List, ◌++◌, length, length-append, length-take, take}
 use Rattle.std.proofs.Math.Seq.{take-append-add}
 use Rattle.cc_word.proofs.DigitLemmas.{length-digits_of}
+use Rattle.cc_io.proofs.DecimalLemmas.{longer}
 use Rattle.cc_io.proofs.DigitLemmas.{HasZeros, digits-moved}
 use Rattle.cc_io.proofs.page.Page.push_significant.Goals as goal
 
@@ -19,3 +20,18 @@ returns-clause-value g c =
     ∙ ap (λ (l : List ℕ). take (length line + (16 - zeros)) l) c.push.ensures
     ∙ take-append-add line sixteen (16 - zeros)
     ∙ ap (λ (l : List ℕ). line ++ l) (ap (λ (l : List ℕ). take (16 - zeros) l) c.write_half.ensures ∙ digits-moved zeros c.args.number is)
+
+pub overflow_shl-number : goal.overflow_shl-number
+overflow_shl-number g c = omega (arith, c.leading_zeros-zeros.ensures.few)
+
+pub push-requires : goal.push-requires
+push-requires g c =
+    let sized : length c.write_half.result ≡ 16 = ap length c.write_half.ensures ∙ length-digits_of 16 _ in
+    (search rules, omega (arith, sized, c.requires))
+
+pub returns-clause-fits : goal.returns-clause-fits
+returns-clause-fits g c =
+    let sized : length c.write_half.result ≡ 16 = ap length c.write_half.ensures ∙ length-digits_of 16 _ in
+    let first = longer c.args.self.now c.write_half.result c.push.new.self c.push.ensures in
+    let kept = length-take (length c.push.new.self - c.leading_zeros-zeros.result) c.push.new.self in
+    omega (arith, first, sized, ap length c.drop_last.ensures, kept)
