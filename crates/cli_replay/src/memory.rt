@@ -34,7 +34,7 @@ pub trait TraceMemory: Memory {
         ensures goes_on { IfOk result (λ taker. T.is_over taker ≡ false) }
         ensures fails { Self.has_failed self.new ≡ is_err result };
 
-    /// Fails if memory ran out in an event.
+    /// Fails if memory ran out in an event. A taker of a trace has no memory that could fail: it stops, and says so.
     ///
     /// Errors: `AllocError` if `has_run_out`.
     fn fail_if(&mut self, has_run_out: bool) -> Result<(), AllocError>

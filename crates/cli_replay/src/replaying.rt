@@ -24,7 +24,7 @@ use cli::{Content, Discard, Fault, Inputs, ReplayOutput, ReplayValues, file_inpu
 /// summaries, from one reading of the trace.
 ///
 /// The values are read first. If one is refused, the output is that refusal, and nothing is read. The program has
-/// checked them before, and does not keep what it read.
+/// checked them before, and does not keep what it read, which only this crate has a type for.
 ///
 /// The summary of the result has an error if a line of the trace is refused. With `--strict`, nothing is read
 /// after the chunk of the first refused line, and in any case nothing after the chunk in which a script ends or
@@ -103,7 +103,7 @@ fn replay_source<M: TraceMemory, S: Source, W: Sink>(
     match request.output {
         ReplayOutput::Chart => {
             let mut charting: Charting<GapPlacer> = memory.begin(request)?;
-            sum_up(memory, &mut charting, request, source, sink)
+            write_at_end(memory, &mut charting, request, source, sink)
         }
         ReplayOutput::Script => {
             let mut script: Script<GapPlacer> = memory.begin(request)?;
@@ -115,21 +115,21 @@ fn replay_source<M: TraceMemory, S: Source, W: Sink>(
         }
         ReplayOutput::Sizes(_) => {
             let mut replay: Replay<GapPlacer> = memory.begin(request)?;
-            sum_up(memory, &mut replay, request, source, sink)
+            write_at_end(memory, &mut replay, request, source, sink)
         }
         ReplayOutput::Summary(_) => {
             if request.others.as_slice().is_empty() {
                 let mut replay: Replay<GapPlacer> = memory.begin(request)?;
-                return sum_up(memory, &mut replay, request, source, sink);
+                return write_at_end(memory, &mut replay, request, source, sink);
             }
             let mut group: ReplayGroup<GapPlacer> = memory.begin(request)?;
-            sum_up(memory, &mut group, request, source, sink)
+            write_at_end(memory, &mut group, request, source, sink)
         }
     }
 }
 
-/// Takes a trace, and writes the text of its end.
-fn sum_up<T: TracePrinter, M: TraceMemory, S: Source, W: Sink>(
+/// Takes a trace, and writes its output at the end.
+fn write_at_end<T: TracePrinter, M: TraceMemory, S: Source, W: Sink>(
     memory: &mut M,
     taker: &mut T,
     request: &ReplayRequest<'_>,
@@ -146,6 +146,7 @@ fn sum_up<T: TracePrinter, M: TraceMemory, S: Source, W: Sink>(
     ensures allocates { (result ≡ Err Fault.Memory) ↔ (M.has_failed memory.new ≡ true) }
     ensures end { IsEnd false (S.state source.new) (W.state sink.old) (W.state sink.new) result }
 {
+    // such a taker writes nothing before the end of the trace
     let summary = taker.take(source, &mut Discard)?;
     memory.fail_if(taker.has_run_out())?;
     taker.write_end(request, sink)?;

@@ -12,11 +12,12 @@ use Rattle.cli_replay.proofs.replaying.replay_source.Goals as goal
 
 pub returns-in_ok-charting-in-Chart-clause-replays : goal.returns-in_ok-charting-in-Chart-clause-replays
 returns-in_ok-charting-in-Chart-clause-replays g c = λ errors errors_now.
-    let traffic = traffic_on (g.S.Source.state c.args.source.now) (g.S.Source.state c.sum_up.new.source) (g.W.Sink.state c.args.sink.now) (g.W.Sink.state c.sum_up.new.sink) errors errors_now in
-    by_output (λ state. Drawn c.args.request.now.settings state traffic c.sum_up.result)
-    (Written c.args.request.now.settings c.args.request.now.others c.args.request.now.reading traffic c.sum_up.result) c.args.request.now.output Chart
+    let traffic = traffic_on (g.S.Source.state c.args.source.now) (g.S.Source.state c.write_at_end.new.source) (g.W.Sink.state c.args.sink.now)
+    (g.W.Sink.state c.write_at_end.new.sink) errors errors_now in
+    by_output (λ state. Drawn c.args.request.now.settings state traffic c.write_at_end.result)
+    (Written c.args.request.now.settings c.args.request.now.others c.args.request.now.reading traffic c.write_at_end.result) c.args.request.now.output Chart
     _ (begun_chart c.args.request.now.settings c.args.request.now.reading) c.in-Chart.is c.in_ok-charting-in-Chart.ensures.begins
-    (λ holds. holds) (c.sum_up.ensures.sums_up errors errors_now)
+    (λ holds. holds) (c.write_at_end.ensures.sums_up errors errors_now)
 
 pub returns-in_ok-script-in-Script-clause-replays : goal.returns-in_ok-script-in-Script-clause-replays
 returns-in_ok-script-in-Script-clause-replays g c = λ errors errors_now.
@@ -38,31 +39,31 @@ returns-in_ok-replay-in-Series-clause-replays g c = λ errors errors_now.
 
 pub returns-in_ok-replay-in-Sizes-clause-replays : goal.returns-in_ok-replay-in-Sizes-clause-replays
 returns-in_ok-replay-in-Sizes-clause-replays g c = λ errors errors_now.
-    let traffic = traffic_on (g.S.Source.state c.args.source.now) (g.S.Source.state c.sum_up-in-Sizes.new.source)
-    (g.W.Sink.state c.args.sink.now) (g.W.Sink.state c.sum_up-in-Sizes.new.sink) errors errors_now in
-    by_output (λ state. Alone state traffic c.sum_up-in-Sizes.result)
-    (Written c.args.request.now.settings c.args.request.now.others c.args.request.now.reading traffic c.sum_up-in-Sizes.result) c.args.request.now.output (Sizes c.in-Sizes.field-0)
+    let traffic = traffic_on (g.S.Source.state c.args.source.now) (g.S.Source.state c.write_at_end-in-Sizes.new.source)
+    (g.W.Sink.state c.args.sink.now) (g.W.Sink.state c.write_at_end-in-Sizes.new.sink) errors errors_now in
+    by_output (λ state. Alone state traffic c.write_at_end-in-Sizes.result)
+    (Written c.args.request.now.settings c.args.request.now.others c.args.request.now.reading traffic c.write_at_end-in-Sizes.result) c.args.request.now.output (Sizes c.in-Sizes.field-0)
     _ (begun (empty_run c.args.request.now.settings) c.args.request.now.reading) c.in-Sizes.is c.in_ok-replay-in-Sizes.ensures.begins
-    (λ holds. holds) (c.sum_up-in-Sizes.ensures.sums_up errors errors_now)
+    (λ holds. holds) (c.write_at_end-in-Sizes.ensures.sums_up errors errors_now)
 
 pub returns-then-is_empty-clause-replays : goal.returns-then-is_empty-clause-replays
 returns-then-is_empty-clause-replays g c = λ errors errors_now.
-    let traffic = traffic_on (g.S.Source.state c.args.source.now) (g.S.Source.state c.sum_up-then-is_empty.new.source)
-    (g.W.Sink.state c.args.sink.now) (g.W.Sink.state c.sum_up-then-is_empty.new.sink) errors errors_now in
-    by_output (λ state. Alone state traffic c.sum_up-then-is_empty.result)
-    (Written c.args.request.now.settings c.args.request.now.others c.args.request.now.reading traffic c.sum_up-then-is_empty.result) c.args.request.now.output (Summary c.in-Summary.field-0)
+    let traffic = traffic_on (g.S.Source.state c.args.source.now) (g.S.Source.state c.write_at_end-then-is_empty.new.source)
+    (g.W.Sink.state c.args.sink.now) (g.W.Sink.state c.write_at_end-then-is_empty.new.sink) errors errors_now in
+    by_output (λ state. Alone state traffic c.write_at_end-then-is_empty.result)
+    (Written c.args.request.now.settings c.args.request.now.others c.args.request.now.reading traffic c.write_at_end-then-is_empty.result) c.args.request.now.output (Summary c.in-Summary.field-0)
     _ (begun (empty_run c.args.request.now.settings) c.args.request.now.reading) c.in-Summary.is c.in_ok-replay-in-Summary.ensures.begins
-    (alone c.in-Summary.field-0 c.args.request.now.settings c.args.request.now.others c.args.request.now.reading traffic c.sum_up-then-is_empty.result
+    (alone c.in-Summary.field-0 c.args.request.now.settings c.args.request.now.others c.args.request.now.reading traffic c.write_at_end-then-is_empty.result
     (ap (λ (l : List Policy). length l == 0) (sym c.as_slice.ensures.value) ∙ sym c.is_empty.ensures ∙ c.if-is_empty.true))
-    (c.sum_up-then-is_empty.ensures.sums_up errors errors_now)
+    (c.write_at_end-then-is_empty.ensures.sums_up errors errors_now)
 
 pub returns-in_ok-group-in-Summary-clause-replays : goal.returns-in_ok-group-in-Summary-clause-replays
 returns-in_ok-group-in-Summary-clause-replays g c = λ errors errors_now.
-    let traffic = traffic_on (g.S.Source.state c.args.source.now) (g.S.Source.state c.sum_up-in-Summary.new.source)
-    (g.W.Sink.state c.args.sink.now) (g.W.Sink.state c.sum_up-in-Summary.new.sink) errors errors_now in
-    by_output (λ state. Swept state traffic c.sum_up-in-Summary.result)
-    (Written c.args.request.now.settings c.args.request.now.others c.args.request.now.reading traffic c.sum_up-in-Summary.result) c.args.request.now.output (Summary c.in-Summary.field-0)
+    let traffic = traffic_on (g.S.Source.state c.args.source.now) (g.S.Source.state c.write_at_end-in-Summary.new.source)
+    (g.W.Sink.state c.args.sink.now) (g.W.Sink.state c.write_at_end-in-Summary.new.sink) errors errors_now in
+    by_output (λ state. Swept state traffic c.write_at_end-in-Summary.result)
+    (Written c.args.request.now.settings c.args.request.now.others c.args.request.now.reading traffic c.write_at_end-in-Summary.result) c.args.request.now.output (Summary c.in-Summary.field-0)
     _ (begun_group c.args.request.now.settings c.args.request.now.others c.args.request.now.reading) c.in-Summary.is c.in_ok-group-in-Summary.ensures.begins
-    (swept c.in-Summary.field-0 c.args.request.now.settings c.args.request.now.others c.args.request.now.reading traffic c.sum_up-in-Summary.result
+    (swept c.in-Summary.field-0 c.args.request.now.settings c.args.request.now.others c.args.request.now.reading traffic c.write_at_end-in-Summary.result
     (ap (λ (l : List Policy). length l == 0) (sym c.as_slice.ensures.value) ∙ sym c.is_empty.ensures ∙ c.if-is_empty.false))
-    (c.sum_up-in-Summary.ensures.sums_up errors errors_now)
+    (c.write_at_end-in-Summary.ensures.sums_up errors errors_now)

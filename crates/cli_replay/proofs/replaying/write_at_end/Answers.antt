@@ -7,7 +7,7 @@ use Rattle.cli.specs.Devices.{fault_of, traffic_on}
 use Rattle.cli.proofs.DeviceLemmas.{on_devices}
 use Rattle.cli_replay.specs.Outputs.{SumsUp}
 use Rattle.cli_replay.proofs.OutputLemmas.{writes_end}
-use Rattle.cli_replay.proofs.replaying.sum_up.Goals as goal
+use Rattle.cli_replay.proofs.replaying.write_at_end.Goals as goal
 
 pub returns-in_err-write_end-clause-sums_up : goal.returns-in_err-write_end-clause-sums_up
 returns-in_err-write_end-clause-sums_up g c = λ errors errors_now.
