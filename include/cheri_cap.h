@@ -339,7 +339,8 @@ uint64_t cheri_cap_word_granule(uint64_t high, uint64_t low) CHERI_CAP_NOEXCEPT;
 
 /*
  * Returns the bounds that a request for [base, base + length) is granted: the tightest that any
- * word can store and that cover the request.
+ * word can store and that cover the request. The instruction, which takes a word and returns one, is
+ * cheri_cap_set_bounds_on.
  *
  * If base + length is above 2^64, `in_range` is false and every other field is zero: no capability
  * has bounds that end above 2^64. (A word that is not canonical can decode to such bounds.)

@@ -420,6 +420,7 @@ impl Cap {
         if exact && !set.exact() {
             return Err(Refusal::Inexact);
         }
+        // the word stores the granted bounds exactly, also those that are wider than the requested ones
         Ok(Cap {
             set: set.as_exact(),
             ..*self

@@ -19,7 +19,7 @@ use cc_plan::{ObjectState, PlannedObject, Planner};
 /// The maximum length in bytes of a part of a drawing that is written at once.
 const MOST_PART: usize = 8192;
 
-/// The maximum length in bytes of the rectangles of an object: one of 300 bytes in each of 16 rows.
+/// The maximum length in bytes of the rectangles of an object: one of at most 300 bytes in each of at most 16 rows.
 const MOST_OBJECT: usize = 4800;
 
 /// Writes a drawing of the planner's pool, and flushes the sink once after it.

@@ -309,6 +309,7 @@ fn push_values(batch: &mut Batch, separator: u8, word: u128, decoded: &Decoded, 
     push_bounds(batch, separator, word, &decoded.bounds);
     let last = SHORT_DECIMALS[usize::from(decoded.exponent)];
     push_rights(batch, separator, &decoded.fields, last);
+    // of the two digits of the exponent, an exponent below 10 has one
     batch.drop_last(usize::from(decoded.exponent < 10));
     push_answer(batch, separator, canonical);
 }

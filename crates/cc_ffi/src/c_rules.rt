@@ -67,6 +67,7 @@ pub extern "C" fn cheri_cap_increment(high: u64, low: u64, amount: u64) -> MadeW
 ///
 /// Errors, in order: `NotCanonical`; `Sealed`; `OutOfBounds`.
 /// Instruction: CSetBounds.
+// inlined, since the loop of c_memory calls it for each word
 #[inline(always)]
 #[unsafe(no_mangle)]
 pub extern "C" fn cheri_cap_set_bounds_on(

@@ -25,6 +25,7 @@ use std::marker::Model;
 #[derive(Drop)]
 pub struct GapPlacer {
     count: u32,
+    // for the contract alone: the gaps lie in it
     pool: Option<Span>,
     row: GapRow,
 }

@@ -316,7 +316,8 @@ impl Machine {
     /// Makes an object of this size at the lowest place of the pool.
     ///
     /// The planner has at most as many objects as the machine has slots, so it never refuses with
-    /// `Full` itself.
+    /// `Full` itself. The pool and the size are tested here too, since their refusals come before
+    /// that of the slots.
     ///
     /// Errors, in order: `NoPool`; `ZeroSize`; `Full`; `NoRoom`.
     #[inline(never)]
@@ -365,6 +366,7 @@ impl Machine {
             return Reply::Refused(refusal);
         }
         self.freed_slots += self.slot_counts[object as usize];
+        // the reply has a number of revoked slots, and only a sweep revokes
         Reply::Freed {
             object,
             revoked: 0,

@@ -15,8 +15,8 @@ use cc_word::Refusal;
 
 /// Steps the machine of a session by a line of a script, and appends the reply and a line feed.
 ///
-/// Requires: 193 bytes fit the page.
-/// Errors: the refusal of the line or of its operation; the text is unchanged then.
+/// Requires: 193 bytes of the page `text` are free.
+/// Errors: the refusal of the line or of its operation; the page is unchanged then.
 #[inline(never)]
 #[tactic(auto, unfolding(cc_syntax::specs::Commands::operation_of))]
 pub fn answer_line<const N: usize>(
@@ -58,7 +58,7 @@ impl<const N: usize> Taker<N> for Session<'_> {
 /// Requires: 193 bytes fit the page.
 /// Errors: the refusal of the operation; the text is unchanged then.
 #[inline(always)]
-pub fn answer_op<const N: usize>(
+pub(crate) fn answer_op<const N: usize>(
     machine: &mut Machine,
     text: &mut Page<N>,
     op: &Op,

@@ -194,7 +194,7 @@ counts_refused opening exchanges line refusal number old new one number_is was o
 
 -- ---- the tally
 
--- Of the setup operations, no line has the number of the first.
+-- The number of the first line is 0 if there is no line, whether a setup operation has the refusal or not.
 no_line : (some : Bool) → (if some then 0 else counted 0) ≡ 0
 no_line true = refl
 no_line false = refl

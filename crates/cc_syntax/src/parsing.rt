@@ -73,7 +73,8 @@ fn parse_words(line: &[u8]) -> Result<Op, Refusal>
 /// name, the form of the values, and the operation.
 ///
 /// Requires: 193 bytes of the page are free.
-// Each command is taken in an arm in which the compiler knows the operation.
+// Each command is taken in an arm in which the compiler knows the operation. In a run the taker is the session of
+// cc_script, which steps its machine.
 #[inline(always)]
 pub fn take_command<const N: usize, T: Taker<N>>(
     taker: &mut T,

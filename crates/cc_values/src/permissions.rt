@@ -9,7 +9,7 @@ use crate::split::split_at_first;
 use cc_word::{Perms, Refusal};
 use std::str;
 
-/// Returns both values, or the first error: `Syntax` comes before `OutOfRange`.
+/// Returns both values, or the error. Of two errors it is `Syntax` if the first is, otherwise the second.
 pub fn both<A: Copy, B: Copy>(
     first: Result<A, Refusal>,
     second: Result<B, Refusal>,

@@ -1,5 +1,5 @@
 //! The digits of words by vectors and tables, for callers that read or write words by the million.
-//! The contracts are the same as in `text`.
+//! The contracts are the same as in `word_text`.
 ghost use Rattle.std.specs.Prelude.{◌≡◌, ◌↔◌, ◌*◌, ◌<◌, ◌^◌, ◌++◌, length, map, slice_index, if◌then◌else◌, IsSome};
 ghost use Rattle.std.specs.Prelude.{IfSome};
 ghost use Rattle.std.specs.Char.{digit_value};

@@ -47,7 +47,8 @@ pub trait Inputs {
     ghost has_refused: { Self → Bool };
 
     /// Makes a source read an input from its start. A failure of the source before that is
-    /// forgotten.
+    /// forgotten. The source is the caller's, so that a contract can name its state after the
+    /// command.
     ///
     /// Errors: `Open` if a file cannot be opened.
     fn open(
