@@ -454,7 +454,7 @@ impl Cap {
     }
 
     // Returns the capability of the word of an unsealed one, or the refusal of another word:
-    // `NotCanonical`, or `Sealed`.
+    // `NotCanonical`, or `Sealed`. It is `of_word` in fewer steps, for the words of most calls.
     #[inline(always)]
     pub(crate) fn of_unsealed_word(word: u128) -> Result<Cap, Refusal>
         ensures { IsUnsealedFrom word result }

@@ -42,6 +42,7 @@ fn push_answer(answer: &mut Text, text: &[u8]) -> Summary
     ensures listing { IsListing text.now answer.new }
     ensures any_error { IsTrue result.any_error ↔ (¬ IsWordText text.now) }
 {
+    // without `0x`, which a row accepts: the output of `show` without a format is fixed
     match read_word(text) {
         Some(word) => {
             push_listing(answer, word);

@@ -540,6 +540,7 @@ impl<P: Placer> Heap<P> {
         if self.objects.len() + self.quarantine.len() >= self.settings.limit as usize {
             return Ok(Making::Full);
         }
+        // so that no free allocates
         self.quarantine.reserve(self.objects.len() + 1)?;
         let Some((span, hint)) = place(&self.placer, self.settings.align, align, size) else {
             return Ok(Making::NoRoom);

@@ -17,6 +17,9 @@ use std::alloc::Global;
 const PIECE: usize = 16384;
 
 /// The memory for what a command allocates.
+///
+/// What allocates is a method of it, also the reading of the arguments, so that a contract can say that memory ran out
+/// exactly if an allocation failed.
 pub trait Memory {
     // An allocation has failed in the last call.
     ghost has_failed: { Self → Bool };

@@ -14,7 +14,8 @@ use clap::{Command, Error};
 use cli::{Fault, GlobalMemory, Inputs, Memory, ReplayValues};
 use std::alloc::{AllocError, Global};
 
-/// How a program executes `replay`: as the command says, or by refusing it. Its memory decides.
+/// How a program executes `replay`: as the command says, or by refusing it. Its memory decides, since `replay`
+/// allocates all the time, and what allocates is a method of the memory.
 ///
 /// `cheri_cap` has the command: its `MemoryWithReplay` calls `cli_replay::replay_file`. A program over `GlobalMemory`,
 /// as `cheri_cap_first` is, refuses it.

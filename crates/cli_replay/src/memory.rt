@@ -14,7 +14,9 @@ use std::alloc::AllocError;
 
 /// The memory for the heap of a trace, which grows while lines are taken.
 ///
-/// It has no parameter, so that no caller can bring one whose allocations always fail.
+/// A taker allocates by itself, and reports that memory ran out: [`TraceMemory::fail_if`] makes that a failure of the
+/// memory, of which the contracts speak. It has no parameter, so that no caller can bring one whose allocations always
+/// fail.
 pub trait TraceMemory: Memory {
     /// Checks the values of `replay`, before its trace is read.
     ///
@@ -34,7 +36,7 @@ pub trait TraceMemory: Memory {
         ensures goes_on { IfOk result (λ taker. T.is_over taker ≡ false) }
         ensures fails { Self.has_failed self.new ≡ is_err result };
 
-    /// Fails if memory ran out in an event. A taker of a trace has no memory that could fail: it stops, and says so.
+    /// Fails if memory ran out in an event.
     ///
     /// Errors: `AllocError` if `has_run_out`.
     fn fail_if(&mut self, has_run_out: bool) -> Result<(), AllocError>

@@ -128,7 +128,8 @@ pub fn plan_file<M: RunMemory, I: Inputs, W: Sink, E: Sink>(
     }
 }
 
-/// Runs a script on a new machine, and reports the run if it came to its end.
+/// Runs a script on a new machine, and reports the run if it came to its end. `pool` is the length of the pool that the
+/// opening requests, for a hint alone.
 // not inlined, so that other commands do not touch the pages of its buffers on the stack
 #[inline(never)]
 fn run<M: RunMemory, I: Inputs, W: Sink, E: Sink>(
