@@ -16,9 +16,9 @@ use std::alloc::{AllocError, Global};
 use std::collections::HashSet;
 use std::marker::Model;
 
-/// A heap over a trace. It also has the lost ids, whose objects had no place: a free of such an id
-/// is lost, and not unknown. And it has the numbers of the objects that were made, by the powers of
-/// two of their sizes.
+/// The result of the events of a trace: the heap; the lost ids, whose objects had no place, since a free
+/// of such an id is lost, and not unknown; and the numbers of the objects that were made, by the powers
+/// of two of their sizes.
 #[derive(Drop)]
 pub struct Run<P: Placer> {
     heap: Heap<P>,

@@ -7,7 +7,8 @@ ghost use Rattle.cc_heap.specs.Totals.{with_made, with_sweep, with_usage};
 use crate::object::Object;
 use crate::usage::Usage;
 
-/// The numbers of all states that a heap has had, and of all objects that were made in it.
+/// The numbers of all states that a heap has had, and of all objects that were made in it. For those of one event, a
+/// caller has the heap forget its peaks first.
 ///
 /// A state is what the heap holds after an object is made, after one is freed, after a sweep, and
 /// after a `realloc` that keeps its object. One that moves it has a state with both objects. Numbers of objects and of

@@ -29,6 +29,7 @@ use std::marker::Model;
 pub struct Machine {
     limit: u32,
     slots: Vec<Slot>,
+    /// The slot of the pool.
     pool: Option<u32>,
     planner: Planner<GapPlacer>,
     /// The slot of each object, in the order of their numbers.

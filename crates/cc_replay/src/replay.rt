@@ -29,7 +29,7 @@ use std::marker::Model;
 /// No line.
 const NONE: Count = Count { times: 0, first: 0 };
 
-/// A heap over a trace that takes the lines of it, and the counts of the lines.
+/// A reader of the lines of a trace: it takes their events into a run, and counts the lines.
 #[derive(Drop)]
 pub struct Replay<P: Placer> {
     run: Run<P>,

@@ -32,7 +32,7 @@ const MOST_OBJECTS: u32 = 65533;
 /// The number of sweeps after which no event is taken.
 const MOST_SWEEPS: u64 = u64::MAX - 3;
 
-/// A heap over a trace, and the script of the operations by which a machine follows it.
+/// A writer of a script: of the operations by which a machine follows the heap over a trace.
 #[derive(Drop)]
 pub struct Script<P: Placer> {
     heap: Heap<P>,

@@ -67,6 +67,7 @@ fn levels_of(figures: &Figures) -> Levels
     ensures { result ≡ levels_of figures.now }
 {
     let Figures { totals, usage, .. } = figures;
+    // the peaks come from the event alone, and are 0 if it changed nothing
     Levels {
         live: totals.peak_live.max(usage.live),
         quarantine: totals.peak_quarantine.max(usage.quarantine),
