@@ -67,7 +67,7 @@ fn decade(events: u128) -> u128
     ensures value { result ≡ decade events }
     ensures fits { result ≤ 10 ^ 30 }
 {
-    // it has a zero for each digit after the first
+    // the power has a zero for each digit of the number after the first
     let mut digits = Line::new();
     digits.push_decimal(events);
     let zeros = digits.len().saturating_sub(1).min(30) as u32;
