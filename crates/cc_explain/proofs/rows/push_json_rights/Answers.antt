@@ -32,7 +32,7 @@ returns-clause-value c =
     let flag : c.from-2.result ≡ bit_of fields.flag = search rules in
     joined c.args.batch.now (with_digits (codes "\"word\":\"") 32 c.args.word) (with_digits (codes "\",\"perms\":\"") 4 fields.perms) (codes "\",\"names\":")
     (permissions_array fields.perms) (codes ",\"reserved\":") (decimal fields.reserved) (codes ",\"flag\":") (decimal (bit_of fields.flag))
-    (with_digits (codes ",\"type\":\"") 5 fields.otype) (codes "\"") c.push_digits.new.page c.push_digits-2.new.page c.push.new.self c.push_permissions_array.new.line c.push-2.new.self
+    (with_digits (codes ",\"type\":\"") 5 fields.otype) (codes "\"") c.push_digits.new.page c.push_digits-2.new.page c.push.new.self c.push_permissions_array.new.page c.push-2.new.self
     c.push_decimal.new.batch c.push-3.new.self c.push_decimal-2.new.batch c.push_digits-3.new.page c.push_byte.new.batch c.push_digits.ensures.value
     (c.push_digits-2.ensures.value ∙ ap (λ (n : ℕ). c.push_digits.new.page ++ with_digits (codes "\",\"perms\":\"") 4 n) c.from.ensures) c.push.ensures
     (c.push_permissions_array.ensures.value ∙ ap (λ (n : ℕ). c.push.new.self ++ permissions_array n) (c.from_bits_retain.ensures tt))

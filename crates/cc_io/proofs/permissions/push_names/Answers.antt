@@ -9,7 +9,7 @@ use Rattle.cc_io.proofs.permissions.push_names.Goals as goal
 
 pub loop-flag-init : goal.loop-flag-init
 loop-flag-init g c = record {
-  text = ap (λ (l : List ℕ). c.args.line.now ++ l) (separated-none c.args.quote.now c.args.between.now (names_of_set (bits_of c.args.perms) (rows_of c.args.flags.now)));
+  text = ap (λ (l : List ℕ). c.args.page.now ++ l) (separated-none c.args.quote.now c.args.between.now (names_of_set (bits_of c.args.perms) (rows_of c.args.flags.now)));
   room = omega arith;
   short = omega arith;
 }
@@ -40,24 +40,24 @@ loop-flag-preserved g c =
           let name_is : w.as_bytes.result.now ≡ row.0 = w.as_bytes.ensures.value ∙ w.name.ensures in
           let has : bit_and bits row.1 ≡ row.1 = search rules in
           record {
-            text = rw (w.line-is, w.separator-is)
+            text = rw (w.page-is, w.separator-is)
                 (name_taken c.args.quote.now c.args.between.now _ _ _ _ bits row _ _ next (eq-eqb (bit_and bits row.1) row.1 has)
-                (w.push_quoted.ensures.value ∙ ap (λ (l : List ℕ). c.loop-flag.line ++ c.loop-flag.separator.now ++ in_quotes c.args.quote.now l) name_is)
+                (w.push_quoted.ensures.value ∙ ap (λ (l : List ℕ). c.loop-flag.page ++ c.loop-flag.separator.now ++ in_quotes c.args.quote.now l) name_is)
                 i.text);
-            room = omega (arith, room, ap length name_is, w.push_quoted.ensures.fits, ap length w.line-is, i.room, i.short);
+            room = omega (arith, room, ap length name_is, w.push_quoted.ensures.fits, ap length w.page-is, i.room, i.short);
             short = omega (arith, ap (λ (s : Bor (List ℕ)). length s.now) w.separator-is);
           }
       | else-contains w ↦
           let lacks : (bit_and bits row.1 ≡ row.1) → ⊥ = search rules in
           record {
-            text = rw (w.line-is, w.separator-is)
+            text = rw (w.page-is, w.separator-is)
                 (name_passed c.args.quote.now c.args.between.now _ _ _ bits row _ _ next (ne_eqb (bit_and bits row.1) row.1 lacks) i.text);
-            room = omega (arith, room, ap length w.line-is, i.room);
+            room = omega (arith, room, ap length w.page-is, i.room);
             short = omega (arith, ap (λ (s : Bor (List ℕ)). length s.now) w.separator-is, i.short);
           }
     ]
 
 pub returns-clause-value : goal.returns-clause-value
 returns-clause-value g c =
-    none_left c.args.quote.now c.args.between.now c.loop-flag.line c.loop-flag.separator.now _ (bits_of c.args.perms) c.loop-flag.flag-index c.args.flags.now
+    none_left c.args.quote.now c.args.between.now c.loop-flag.page c.loop-flag.separator.now _ (bits_of c.args.perms) c.loop-flag.flag-index c.args.flags.now
     c.loop-flag-test.false c.loop-flag.invariant.text

@@ -7,9 +7,9 @@ use Rattle.cc_io.proofs.permissions.push_names.Given as goal
 
 abbrev pub invariant-loop-flag : goal.invariant-loop-flag
 invariant-loop-flag g l = record {
-  text : l.line ++ separated l.quote l.between l.separator (names_of_set (bits_of l.perms) (drop l.flag-index (rows_of l.flags)))
-      ≡ l.initial.line ++ join_by (in_quotes l.quote) l.between (names_of_set (bits_of l.perms) (rows_of l.flags));
-  room : length l.line + names_length (2 * length l.quote + length l.between) (drop l.flag-index (rows_of l.flags))
-      ≤ length l.initial.line + names_length (2 * length l.quote + length l.between) (rows_of l.flags);
+  text : l.page ++ separated l.quote l.between l.separator (names_of_set (bits_of l.perms) (drop l.flag-index (rows_of l.flags)))
+      ≡ l.initial.page ++ join_by (in_quotes l.quote) l.between (names_of_set (bits_of l.perms) (rows_of l.flags));
+  room : length l.page + names_length (2 * length l.quote + length l.between) (drop l.flag-index (rows_of l.flags))
+      ≤ length l.initial.page + names_length (2 * length l.quote + length l.between) (rows_of l.flags);
   short : length l.separator ≤ length l.between;
 }

@@ -14,5 +14,5 @@ returns-else-bits-eq0-clause-value g c =
     let some = ne_eqb (bits_of c.args.perms) 0 (search rules) in
     rw some
     (c.push_names.ensures.value
-    ∙ ap (λ (l : List Row). c.args.line.now ++ join_by (in_quotes []) (43 ∷ []) (names_of_set (bits_of c.args.perms) l)) rows
-    ∙ ap (λ (l : List ℕ). c.args.line.now ++ l) (joined (names_of_set (bits_of c.args.perms) permission_table)))
+    ∙ ap (λ (l : List Row). c.args.page.now ++ join_by (in_quotes []) (43 ∷ []) (names_of_set (bits_of c.args.perms) l)) rows
+    ∙ ap (λ (l : List ℕ). c.args.page.now ++ l) (joined (names_of_set (bits_of c.args.perms) permission_table)))
