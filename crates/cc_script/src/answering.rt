@@ -1,9 +1,8 @@
 //! Replies to one line.
-ghost use Rattle.std.specs.Prelude.{◌≡◌, ◌+◌, ◌≤◌, length, true, Result, Ok};
+ghost use Rattle.std.specs.Prelude.{◌≡◌, ◌+◌, ◌≤◌, length, Result, Ok};
 ghost use Rattle.cc_word.specs.declared.refusal.Refusal.{Refusal as RefusalSpec};
 ghost use Rattle.cc_values.specs.declared.op.Op.{Op as OpSpec};
 ghost use Rattle.cc_syntax.specs.Commands.{operation_of};
-ghost use Rattle.cc_syntax.specs.Replies.{is_error};
 ghost use Rattle.cc_script.specs.Answering.{IsAnswered};
 ghost use Rattle.cc_script.specs.Session.{HasSameMachine, TakesScriptLine};
 
@@ -77,11 +76,4 @@ pub(crate) fn answer_op<const N: usize>(
             Ok(())
         }
     }
-}
-
-/// Returns whether a reply is an error.
-pub fn is_refusal(reply: &Reply) -> bool
-    ensures { result ≡ is_error reply.now }
-{
-    matches!(reply, Reply::Refused(_))
 }

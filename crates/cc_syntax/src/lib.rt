@@ -15,6 +15,6 @@ pub use cc_values::{both, read_address, read_permissions};
 pub use numbers::read_length;
 pub use parsing::{MOST_BYTES, Taker, parse_line, take_command};
 pub use planning::{plan_numbers, plan_opening};
-pub use printing::{push_any_reply, push_reply, reply_line};
+pub use printing::{push_reply, reply_line};
 pub use request::{read_request, request_from};
 pub use tally::{Count, Tally};

@@ -16,21 +16,8 @@ pub fn reply_line(reply: &Reply) -> Line
     ensures { result ≡ reply_text reply.now }
 {
     let mut line = Line::new();
-    push_any_reply(&mut line, reply);
+    push_reply(&mut line, reply);
     line
-}
-
-/// Appends the line of a reply whose kind the compiler does not know. Not inlined, so that this
-/// code exists once.
-///
-/// Requires: 192 bytes of the page are free.
-#[inline(never)]
-pub fn push_any_reply<const N: usize>(line: &mut Page<N>, reply: &Reply)
-    requires { length line.old + 192 ≤ N }
-    ensures value { line.new ≡ line.old ++ reply_text reply.now }
-    ensures fits { length line.new ≤ length line.old + 192 }
-{
-    push_reply(line, reply);
 }
 
 /// Appends the line of a reply, at most 192 bytes.
