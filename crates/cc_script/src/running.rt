@@ -15,7 +15,7 @@ use crate::session::Session;
 use cc_io::{
     Answerer, Failed, IoError, Lines, Page, Sink, Source, Summary, make_room, pump, refusal_bytes,
 };
-use cc_machine::{Machine, Op, Reply};
+use cc_machine::{Machine, Op};
 use cc_syntax::Tally;
 use cc_word::Refusal;
 
@@ -148,7 +148,7 @@ fn take_opening<W: Sink, const N: usize>(
         }
         if let Err(refusal) = answer_op(machine, page, op) {
             page.push(refusal_bytes(refusal));
-            tally.take_opening(&Reply::Refused(refusal));
+            tally.take_refused_opening(refusal);
             any_error = true;
         }
     }

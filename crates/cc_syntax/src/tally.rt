@@ -8,7 +8,6 @@ ghost use Rattle.cc_syntax.specs.Replies.{is_error};
 ghost use Rattle.cc_syntax.specs.Tally.{Exchange, HasOneMore, IsTally, first_after, is_refusal};
 
 use crate::line_hints::{ends_in_return, has_marked_word};
-use cc_values::Reply;
 use cc_word::Refusal;
 
 /// The number of replies that are one refusal, and the line that got the first of them.
@@ -128,14 +127,12 @@ impl Tally {
         }
     }
 
-    /// Counts the reply to a setup operation.
-    pub fn take_opening(&mut self, reply: &Reply)
+    /// Counts a setup operation that is refused.
+    pub fn take_refused_opening(&mut self, refusal: Refusal)
         ensures { (opening : List ReplySpec) → IsTally opening [] self.old
-            → IsTally (opening ++ reply.now ∷ []) [] self.new }
+            → IsTally (opening ++ Refused refusal ∷ []) [] self.new }
     {
-        if let Reply::Refused(refusal) = *reply {
-            add_reply(&mut self.counts, refusal, 0);
-        }
+        add_reply(&mut self.counts, refusal, 0);
     }
 
     /// Counts a line whose reply is not a refusal.

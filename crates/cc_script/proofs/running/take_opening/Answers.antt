@@ -25,7 +25,7 @@ loop-op-preserved g c =
             let page_is = w.page-is ∙ w.push.ensures ∙ ap (λ (l : List ℕ). l ++ w.refusal_bytes.result.now) refused.1 in
             more (Refused w.in-Err-answer_op.refusal) refused.0 (page_is ∙ ap (λ (l : List ℕ). c.make_room.new.page ++ l) w.refusal_bytes.ensures.value)
             (omega (arith, ap length page_is, length-append c.make_room.new.page w.refusal_bytes.result.now, w.refusal_bytes.ensures.fits))
-            (w.any_error-is ∙ sym (or-true _)) (rw w.tally-is w.take_opening.ensures)
+            (w.any_error-is ∙ sym (or-true _)) (rw w.tally-is w.take_refused_opening.ensures)
         | in_default w ↦
             let replied = w.in_default.ensures.answers (Ok c.op-item.result) refl in
             more replied.reply replied.takes (w.page-is ∙ replied.text_is) (omega (arith, ap length w.page-is, c.answer_op.ensures.fits))
