@@ -77,11 +77,11 @@ pub fn pump<F: Framing, A: Answerer<N>, R: Source, W: Sink, const N: usize>(
         }
     }
     let end_error = end_rest(answerer, start.as_slice(), page);
-    match write_last(page, sink) {
+    match write_and_flush(page, sink) {
         Ok(()) => Ok(Summary {
             any_error: any_error | end_error,
         }),
-        Err(Failed) => Err(IoError::Write),
+        Err(error) => Err(error),
     }
 }
 
@@ -263,20 +263,5 @@ pub fn write_and_flush<W: Sink, const N: usize>(page: &Page<N>, sink: &mut W) ->
             Err(Failed) => Err(IoError::Write),
         },
         Err(Failed) => Err(IoError::Write),
-    }
-}
-
-/// Writes the last page and flushes the sink.
-fn write_last<W: Sink, const N: usize>(page: &mut Page<N>, sink: &mut W) -> Result<(), Failed>
-    requires { (W.state sink.old).has_failed ≡ false }
-    ensures { SendsBytes (W.state sink.old) (W.state sink.new) page.old result }
-{
-    match write_page(page, sink) {
-        Ok(()) => {}
-        Err(Failed) => return Err(Failed),
-    }
-    match sink.flush() {
-        Ok(()) => Ok(()),
-        Err(Failed) => Err(Failed),
     }
 }

@@ -3,6 +3,7 @@ use Rattle.std.specs.Io.KnownBytes.{Consumes, Appends}
 use Rattle.cc_io.specs.Devices.{TakesPrefix}
 use Rattle.cc_io.specs.Answers.{EndsWith}
 use Rattle.cc_io.specs.Correct.{Pumps}
+use Rattle.cc_io.specs.declared.summary.IoError.TheVariants.{Write}
 use Rattle.cc_io.proofs.DeviceLemmas.{keeps_consumes}
 use Rattle.cc_io.proofs.EngineLemmas.{reads_begins, stops_pending, reads_more, fails_reading, stops_reading, ends, stops_ending, piece_goes_on, piece_done, ends_early, stops_done}
 use Rattle.cc_io.proofs.pumping.pump.Goals as goal
@@ -64,28 +65,29 @@ returns-in-Err-flush-clause-pumps g c =
     stops_done g.A.Answerer.done _ _ _ (g.met.F.Framing.is_frame c.args.framing.now) _ _ _ _ _ _ _ _ _ _ _ _ _ _ _ _ _ r c.in-Ok-read.ensures.gives.0 over
     (piece_done g.A.Answerer.done _ _ _ _ _ _ _ _ _ _ (c.in-Ok-take_piece.ensures.ok _ r.answers.start_is) over) c.in-Err-flush.ensures.keeps
 
-pub returns-in-Ok-write_last-clause-pumps : goal.returns-in-Ok-write_last-clause-pumps
-returns-in-Ok-write_last-clause-pumps g c =
+pub returns-in-Ok-write_and_flush-clause-pumps : goal.returns-in-Ok-write_and_flush-clause-pumps
+returns-in-Ok-write_and_flush-clause-pumps g c =
     let given = c.in-Ok-read.ensures.gives in
     let none : c.in-Ok-read.count ≡ 0 = search rules in
     let nothing = subst (λ (n : ℕ). Consumes (g.R.Source.state c.pieces.source).unread (g.R.Source.state c.read.new.self).unread (take n c.read.new.room)) none given.0 in
     let ended = c.end_rest-end_error.ensures in
     subst (λ (e : Bool). Pumps g.A.Answerer.done g.A.Answerer.Answered g.A.Answerer.Ended (g.F.Framing.frame c.args.framing.now) g.row.N g.A.Answerer.MOST c.args.answerer.now c.args.page.now
-    (g.R.Source.state c.args.source.now).unread (g.R.Source.state c.read.new.self).unread (g.W.Sink.state c.args.sink.now).taken (g.W.Sink.state c.write_last.new.sink).taken
+    (g.R.Source.state c.args.source.now).unread (g.R.Source.state c.read.new.self).unread (g.W.Sink.state c.args.sink.now).taken (g.W.Sink.state c.write_and_flush.new.sink).taken
     (Ok (record { any_error = c.pieces.any_error || e })) c.end_rest-end_error.new.answerer) (sym ended.error_is)
     (ends _ _ _ _ _ _ _ _ _ _ _ _ _ _ _ _ _ _ ended.ending c.pieces.invariant.reads nothing (given.1 none (search rules))
     (subst (λ (start : List ℕ). EndsWith g.A.Answerer.Ended c.pieces.answerer start ended.ending c.end_rest-end_error.new.answerer) c.as_slice.ensures ended.ends)
-    (subst (λ (l : List ℕ). Appends (g.W.Sink.state c.pieces.sink).taken (g.W.Sink.state c.write_last.new.sink).taken l) ended.text_is c.in-Ok-write_last.ensures.ok))
+    (subst (λ (l : List ℕ). Appends (g.W.Sink.state c.pieces.sink).taken (g.W.Sink.state c.write_and_flush.new.sink).taken l) ended.text_is c.in-Ok-write_and_flush.ensures.sends.ok))
 
-pub returns-in-Err-write_last-clause-pumps : goal.returns-in-Err-write_last-clause-pumps
-returns-in-Err-write_last-clause-pumps g c =
+pub returns-in-Err-write_and_flush-clause-pumps : goal.returns-in-Err-write_and_flush-clause-pumps
+returns-in-Err-write_and_flush-clause-pumps g c =
     let given = c.in-Ok-read.ensures.gives in
     let none : c.in-Ok-read.count ≡ 0 = search rules in
     let nothing = subst (λ (n : ℕ). Consumes (g.R.Source.state c.pieces.source).unread (g.R.Source.state c.read.new.self).unread (take n c.read.new.room)) none given.0 in
     let ended = c.end_rest-end_error.ensures in
-    stops_ending _ _ _ _ _ _ _ _ _ _ _ _ _ _ _ _ _ _ ended.ending c.pieces.invariant.reads nothing (given.1 none (search rules))
+    let is_write : c.in-Err-write_and_flush.error ≡ Write = search rules in
+    rw is_write (stops_ending _ _ _ _ _ _ _ _ _ _ _ _ _ _ _ _ _ _ ended.ending c.pieces.invariant.reads nothing (given.1 none (search rules))
     (subst (λ (start : List ℕ). EndsWith g.A.Answerer.Ended c.pieces.answerer start ended.ending c.end_rest-end_error.new.answerer) c.as_slice.ensures ended.ends)
-    (subst (λ (l : List ℕ). TakesPrefix (g.W.Sink.state c.pieces.sink).taken (g.W.Sink.state c.write_last.new.sink).taken l) ended.text_is c.in-Err-write_last.ensures.err)
+    (subst (λ (l : List ℕ). TakesPrefix (g.W.Sink.state c.pieces.sink).taken (g.W.Sink.state c.write_and_flush.new.sink).taken l) ended.text_is c.in-Err-write_and_flush.ensures.sends.err))
 
 pub returns-in-Err-clause-outcome : goal.returns-in-Err-clause-outcome
 returns-in-Err-clause-outcome g c = record {
@@ -108,16 +110,18 @@ returns-in-Err-take_piece-clause-outcome g c = record {
   flushed = tt;
 }
 
-pub returns-in-Ok-write_last-clause-outcome : goal.returns-in-Ok-write_last-clause-outcome
-returns-in-Ok-write_last-clause-outcome g c = record {
+pub returns-in-Ok-write_and_flush-clause-outcome : goal.returns-in-Ok-write_and_flush-clause-outcome
+returns-in-Ok-write_and_flush-clause-outcome g c = record {
   read = neither_failed _ _ _ c.in-Ok-read.ensures.fails.1 (λ is. cc (is));
-  write = neither_failed _ _ _ c.in-Ok-write_last.ensures.fails.1 (λ is. cc (is));
-  flushed = c.in-Ok-write_last.ensures.flushed;
+  write = neither_failed _ _ _ c.in-Ok-write_and_flush.ensures.sends.fails.1 (λ is. cc (is));
+  flushed = c.in-Ok-write_and_flush.ensures.sends.flushed;
 }
 
-pub returns-in-Err-write_last-clause-outcome : goal.returns-in-Err-write_last-clause-outcome
-returns-in-Err-write_last-clause-outcome g c = record {
-  read = neither_failed _ _ _ c.in-Ok-read.ensures.fails.1 (λ is. cc (is));
-  write = both_failed _ _ (c.in-Err-write_last.ensures.fails.0 refl);
-  flushed = tt;
-}
+pub returns-in-Err-write_and_flush-clause-outcome : goal.returns-in-Err-write_and_flush-clause-outcome
+returns-in-Err-write_and_flush-clause-outcome g c =
+    let is_write : c.in-Err-write_and_flush.error ≡ Write = search rules in
+    rw is_write (record {
+      read = neither_failed _ _ _ c.in-Ok-read.ensures.fails.1 (λ is. cc (is));
+      write = both_failed _ _ (c.in-Err-write_and_flush.ensures.sends.fails.0 refl);
+      flushed = tt;
+    })
