@@ -9,9 +9,9 @@ use memchr::memchr;
 use std::marker::Model;
 use std::simd::prelude::*;
 
-/// The number of bytes kept, one more than a line may have, so that a line that is too long is
-/// distinguished.
-const ROOM: usize = 129;
+/// The number of bytes of an entry that an answerer sees, one more than a line may have, so that a
+/// line that is too long is distinguished. The further bytes of a longer entry are dropped.
+pub(crate) const SEEN: usize = 129;
 
 /// The number of bytes that are searched together for a line feed, since most lines are short.
 const NEAR: usize = 32;
@@ -19,7 +19,7 @@ const NEAR: usize = 32;
 /// The first 129 bytes of an entry. The further bytes of a longer entry are not kept.
 #[derive(Drop)]
 pub struct LineStart {
-    bytes: [u8; ROOM],
+    bytes: [u8; SEEN],
     len: usize,
 }
 
@@ -37,7 +37,7 @@ impl LineStart {
         ensures { result ≡ [] }
     {
         LineStart {
-            bytes: [0; ROOM],
+            bytes: [0; SEEN],
             len: 0,
         }
     }
@@ -53,7 +53,7 @@ impl LineStart {
     pub fn extend(&mut self, bytes: &[u8])
         ensures { self.new ≡ take 129 (self.old ++ bytes.now) }
     {
-        let count = bytes.len().min(ROOM - self.len);
+        let count = bytes.len().min(SEEN - self.len);
         let end = self.len + count;
         self.bytes[self.len..end].copy_from_slice(&bytes[..count]);
         self.len = end;

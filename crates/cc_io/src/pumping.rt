@@ -10,16 +10,12 @@ use crate::Page;
 use crate::answerer::Answerer;
 use crate::devices::{Failed, Sink, Source, write_all};
 use crate::framing::Framing;
-use crate::line_start::LineStart;
+use crate::line_start::{LineStart, SEEN};
 use crate::summary::{IoError, Summary};
 
 /// The maximum number of bytes in one read.
 // on the stack: each page of a larger frame would be touched at every call
 const PIECE: usize = 16384;
-
-/// The number of bytes of an entry that an answerer sees. The further bytes of a longer entry are
-/// dropped.
-const SEEN: usize = 129;
 
 /// Writes the bytes on the page, and then the reply to each entry that the source gives.
 ///
