@@ -13,7 +13,8 @@ ghost use Rattle.cc_syntax.specs.Tally.{IsTally};
 use crate::answering::{answer_line, answer_op};
 use crate::session::Session;
 use cc_io::{
-    Answerer, Failed, IoError, Lines, Page, Sink, Source, Summary, make_room, pump, refusal_bytes,
+    Answerer, Failed, IoError, Lines, MOST_LINE, Page, Sink, Source, Summary, make_room, pump,
+    refusal_bytes,
 };
 use cc_machine::{Machine, Op};
 use cc_syntax::Tally;
@@ -35,7 +36,7 @@ impl<const N: usize> Answerer<N> for Session<'_> {
     fn most() -> usize
         ensures { result ≡ 193 }
     {
-        193
+        MOST_LINE
     }
 
     #[inline(always)]
@@ -142,7 +143,7 @@ fn take_opening<W: Sink, const N: usize>(
 {
     let mut any_error = false;
     for op in opening {
-        match make_room(193, page, sink) {
+        match make_room(MOST_LINE, page, sink) {
             Ok(()) => {}
             Err(Failed) => return Err(Failed),
         }
