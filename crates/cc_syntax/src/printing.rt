@@ -4,12 +4,12 @@ ghost use Rattle.cc_word.specs.Word.{bit_of};
 ghost use Rattle.cc_word.specs.WordText.{digits_of};
 ghost use Rattle.cc_word.specs.Permissions.{bits_of};
 ghost use Rattle.cc_syntax.specs.Replies.{align_text, bounds_text, hexadecimal, made_text, parent_text};
-ghost use Rattle.cc_syntax.specs.Replies.{refusal_text, reply_text, revoked_text};
+ghost use Rattle.cc_syntax.specs.Replies.{reply_text, revoked_text};
 
 use cc_bounds::{Align, Span};
-use cc_io::{Line, Page};
+use cc_io::{Line, Page, refusal_bytes};
 use cc_values::Reply;
-use cc_word::{ObjType, Perms, Refusal, write_half};
+use cc_word::{ObjType, Perms, write_half};
 
 /// Returns the line of a reply, without its line feed: at most 192 bytes.
 pub fn reply_line(reply: &Reply) -> Line
@@ -67,22 +67,12 @@ pub fn push_reply<const N: usize>(line: &mut Page<N>, reply: &Reply)
             revoked,
             held,
         } => push_swept(line, objects, revoked, held),
-        Reply::Refused(refusal) => push_refusal(line, refusal),
+        Reply::Refused(refusal) => {
+            let bytes = refusal_bytes(refusal);
+            // all but the line feed
+            line.push(&bytes[..bytes.len() - 1]);
+        }
     }
-}
-
-/// Appends the line of a refusal, at most 192 bytes.
-///
-/// Requires: 192 bytes of the page are free.
-pub fn push_refusal<const N: usize>(line: &mut Page<N>, refusal: Refusal)
-    requires { length line.old + 192 ≤ N }
-    ensures value { line.new ≡ line.old ++ refusal_text refusal }
-    ensures fits { length line.new ≤ length line.old + 192 }
-{
-    line.push_known(*b"error ");
-    line.push_index(u32::from(refusal.code()));
-    line.push_known(*b" ");
-    line.push(refusal.name().as_bytes());
 }
 
 /// Appends the line of a new slot.
