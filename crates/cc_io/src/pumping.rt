@@ -65,6 +65,7 @@ pub fn pump<F: Framing, A: Answerer<N>, R: Source, W: Sink, const N: usize>(
             Ok(is_error) => any_error |= is_error,
             Err(Failed) => return Err(IoError::Write),
         }
+        // asked again, since the result of the chunk does not say why it ended
         if answerer.is_done() {
             return match sink.flush() {
                 Ok(()) => Ok(Summary { any_error }),
