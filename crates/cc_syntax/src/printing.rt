@@ -142,7 +142,7 @@ fn push_pool<const N: usize>(line: &mut Page<N>, slot: u32, span: &Span, align: 
     line.push_known(*b" ");
     push_bounds(line, span);
     match align {
-        Align::One => line.push(b""),
+        Align::One => {}
         Align::Sixteen => line.push_known(*b" align 16"),
     }
 }

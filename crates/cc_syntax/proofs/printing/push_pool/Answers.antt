@@ -1,4 +1,4 @@
-use Rattle.std.proofs.Common.{[], ap, arith, codes, length, length-append, refl}
+use Rattle.std.proofs.Common.{ap, append-nil, arith, codes, length, length-append, refl, sym}
 use Rattle.cc_syntax.proofs.printing.push_pool.Goals as goal
 
 pub push_index-requires : goal.push_index-requires
@@ -58,8 +58,6 @@ pub returns-in-One-clause-fits : goal.returns-in-One-clause-fits
 returns-in-One-clause-fits g c =
     omega (
       arith,
-      ap length c.push.ensures,
-      length-append c.push_bounds.new.line [],
       c.push_bounds.ensures.fits,
       ap length c.push_known-2.ensures,
       length-append c.push_index.new.self (codes " "),
@@ -74,4 +72,4 @@ returns-in-Sixteen-clause-value g c =
 
 pub returns-in-One-clause-value : goal.returns-in-One-clause-value
 returns-in-One-clause-value g c =
-    rw (c.push.ensures, c.push_bounds.ensures.value, c.push_known-2.ensures, c.push_index.ensures.value, c.push_known.ensures, c.in-One.is) refl
+    rw (c.push_bounds.ensures.value, c.push_known-2.ensures, c.push_index.ensures.value, c.push_known.ensures, c.in-One.is) (sym (append-nil _))
