@@ -11,8 +11,7 @@ mod tally;
 mod values;
 mod words;
 
-pub use cc_values::{both, read_address, read_permissions};
-pub use numbers::read_length;
+pub use cc_values::{both, read_address, read_length, read_permissions};
 pub use parsing::{MOST_BYTES, Taker, parse_line, take_command};
 pub use planning::{plan_numbers, plan_opening};
 pub use printing::{push_reply, reply_line};

@@ -1,33 +1,13 @@
-//! Reads lengths, and the number of a slot before other values.
-ghost use Rattle.std.specs.Prelude.{◌≡◌, ◌+◌, ◌*◌, ◌-◌, ◌<◌, ◌≤◌, ◌^◌, ◌∷◌, [], length, min, Some, IfSome, IfNone};
-ghost use Rattle.std.specs.Prelude.{SomeIff, IsSome};
-ghost use Rattle.std.specs.Char.{digit_value};
-ghost use Rattle.cc_values.specs.Digits.{Spells};
-ghost use Rattle.cc_values.specs.Numbers.{within_limit, number_of};
-ghost use Rattle.cc_values.specs.Values.{index_in, length_in, words_of};
+//! Reads the number of a slot before other values.
+ghost use Rattle.std.specs.Prelude.{◌≡◌, ◌∷◌, [], IfSome, IfNone};
+ghost use Rattle.cc_values.specs.Values.{words_of};
 ghost use Rattle.cc_syntax.specs.Commands.{BeginsWithNumber, BeginsWithSlot};
 
-use cc_bounds::{ADDRESS_SPACE, Len};
-use cc_values::{Spelled, read_index, read_number, split_at_first, value_of_decimal};
+use cc_values::{read_index, split_at_first, value_of_decimal};
 use cc_word::Refusal;
 
 /// The longest number of a slot that the fast path reads, with its space, in bytes.
 const MOST_INDEX: usize = 16;
-
-/// Parses a length: one number of at most 2^64, of any length.
-///
-/// Errors, in order: `Syntax` if the string is not a number; `OutOfRange` above the limit.
-#[inline(always)]
-pub fn read_length(text: &[u8]) -> Result<Len, Refusal>
-    ensures { result ≡ length_in text.now }
-{
-    match read_number(text) {
-        Spelled::Number(number) => Len::new(u128::from(number)).ok_or(Refusal::OutOfRange),
-        Spelled::Whole => Len::new(ADDRESS_SPACE).ok_or(Refusal::OutOfRange),
-        Spelled::Over => Err(Refusal::OutOfRange),
-        Spelled::Nothing => Err(Refusal::Syntax),
-    }
-}
 
 /// Returns the number of at most fifteen decimal digits before the first space, and the bytes after
 /// that space. `None` means that the fast path does not apply.

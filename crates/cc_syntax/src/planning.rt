@@ -2,9 +2,8 @@
 ghost use Rattle.std.specs.Prelude.{◌≡◌};
 ghost use Rattle.cc_syntax.specs.Planning.{plan_opening, pool_of};
 
-use crate::numbers::read_length;
 use cc_bounds::{Align, Len};
-use cc_values::{Op, both, read_address};
+use cc_values::{Op, both, read_address, read_length};
 use cc_word::Refusal;
 
 /// Returns the base and the length in bytes of the pool that two strings parse as.

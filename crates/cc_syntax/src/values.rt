@@ -5,9 +5,9 @@ ghost use Rattle.cc_values.specs.Values.{address_in, both, flag_in, index_in, le
 ghost use Rattle.cc_values.specs.Values.{word_in, words_of};
 ghost use Rattle.cc_syntax.specs.Commands.{align_in, slot_and, slot_and_perhaps};
 
-use crate::numbers::{read_length, split_number, split_slot};
+use crate::numbers::{split_number, split_slot};
 use cc_bounds::{Align, Len};
-use cc_values::{both, read_address, read_index, read_permissions};
+use cc_values::{both, read_address, read_index, read_length, read_permissions};
 use cc_word::{Perms, Refusal};
 
 /// A kind of value. Slots and objects are `u32`, addresses and increments `u64`, words `u128`, flags

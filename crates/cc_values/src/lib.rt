@@ -10,7 +10,7 @@ mod split;
 mod usage;
 
 pub use digits::{Spelled, value_of_decimal};
-pub use numbers::{read_address, read_index, read_number};
+pub use numbers::{read_address, read_index, read_length, read_number};
 pub use op::Op;
 pub use permissions::{both, read_permissions};
 pub use reply::Reply;

@@ -2,9 +2,10 @@
 ghost use Rattle.std.specs.Prelude.{◌≡◌, ◌-◌, ◌^◌};
 ghost use Rattle.cc_values.specs.Digits.{Spells};
 ghost use Rattle.cc_values.specs.Numbers.{within_limit, number_of};
-ghost use Rattle.cc_values.specs.Values.{address_in, index_in};
+ghost use Rattle.cc_values.specs.Values.{address_in, index_in, length_in};
 
 use crate::digits::{Spelled, read_digits};
+use cc_bounds::{ADDRESS_SPACE, Len};
 use cc_word::Refusal;
 
 /// Parses an address or an increment: one number of at most 2^64 - 1, of any length.
@@ -31,6 +32,21 @@ pub fn read_index(text: &[u8]) -> Result<u32, Refusal>
     match read_number(text) {
         Spelled::Number(number) if number <= u64::from(u32::MAX) => Ok(number as u32),
         Spelled::Number(_) | Spelled::Whole | Spelled::Over => Err(Refusal::OutOfRange),
+        Spelled::Nothing => Err(Refusal::Syntax),
+    }
+}
+
+/// Parses a length: one number of at most 2^64, of any length.
+///
+/// Errors, in order: `Syntax` if the string is not a number; `OutOfRange` above the limit.
+#[inline(always)]
+pub fn read_length(text: &[u8]) -> Result<Len, Refusal>
+    ensures { result ≡ length_in text.now }
+{
+    match read_number(text) {
+        Spelled::Number(number) => Len::new(u128::from(number)).ok_or(Refusal::OutOfRange),
+        Spelled::Whole => Len::new(ADDRESS_SPACE).ok_or(Refusal::OutOfRange),
+        Spelled::Over => Err(Refusal::OutOfRange),
         Spelled::Nothing => Err(Refusal::Syntax),
     }
 }
