@@ -6,7 +6,7 @@ use Rattle.cc_io.specs.Frames.{lines}
 use Rattle.cc_replay.specs.declared.reading.Progress.TheVariants.{Running, OutOfMemory}
 use Rattle.cc_replay.specs.declared.reading.Reading.{Reading}
 use Rattle.cc_heap.specs.declared.settings.Settings.{Settings}
-use Rattle.cc_replay.specs.Replay.{figures_of, replaying}
+use Rattle.cc_replay.specs.Replay.{replaying}
 use Rattle.cc_replay.specs.Taking.{next_entry}
 use Rattle.cli_replay.specs.Charting.{Charted, ChartsLine, ChartsRest, begun_chart, charted, peakless}
 use Rattle.cc_laws.proofs.OneReplayLemmas.{IsOnce, line_leads, rest_leads}
@@ -22,7 +22,7 @@ lines_lead : (old : Charted) (entries : List (List ℕ)) → IsOnce old.replay �
 lines_lead old [] once left = record { answers = []; new = old; takes = refl; once = once; left = left }
 lines_lead old (line ∷ entries) once left =
     let first = line_leads (peakless old.replay) line once left in
-    let mid : Charted = record { replay = first.new; chart = charted old.replay.progress (next_entry replaying old.replay line).event (figures_of first.new) old.chart } in
+    let mid : Charted = record { replay = first.new; chart = charted old.replay.progress (next_entry replaying old.replay line).event first.new.run.heap old.chart } in
     let next = lines_lead mid entries first.once first.left in
     record {
       answers = record { text = first.text; is_error = first.is_error } ∷ next.answers;

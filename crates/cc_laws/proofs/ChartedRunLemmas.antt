@@ -20,7 +20,7 @@ use Rattle.cc_replay.specs.declared.formats.Entry.{Entry}
 use Rattle.cc_replay.specs.declared.reading.Progress.{Progress}
 use Rattle.cc_replay.specs.declared.reading.Progress.TheVariants.{Running, Stopped, OutOfMemory}
 use Rattle.cc_replay.specs.declared.reading.Reading.{Reading}
-use Rattle.cc_replay.specs.Replay.{ReplayState, TakesLine, at_entry, event_before, events_in, figures_of, replaying}
+use Rattle.cc_replay.specs.Replay.{ReplayState, TakesLine, at_entry, event_before, events_in, replaying}
 use Rattle.cc_replay.specs.Taking.{TakesEntry, TakesLineIn, TakesRestIn, next_entry}
 use Rattle.cc_laws.specs.ChartedRun.{HasLevels, RunsWithLevels, ShowsRun}
 use Rattle.cc_laws.proofs.SeenLemmas.{events_seen}
@@ -112,7 +112,7 @@ all_have old new (line ∷ entries) [] t has = absurd t
 -- ---- the levels of an event
 
 event_levels : (old : Heap) (event : Event) (outcome : Outcome) (state : ReplayState) → IsEvent (without_peaks old) event outcome state.run.heap
-    → HasLevels (without_peaks old) state.run.heap (levels_of (figures_of state))
+    → HasLevels (without_peaks old) state.run.heap (levels_of state.run.heap.totals (usage_of state.run.heap.memory))
 event_levels old event outcome state is =
     let peaks = has_peaks old event outcome state.run.heap is in
     record {
@@ -162,7 +162,7 @@ no_event old mid new events running heap chart later = record {
 }
 
 joins : (event : Result (Option Event) Refusal) (old mid new : Charted) (events : List Event) → old.replay.progress ≡ Running
-    → Steps event (peakless old.replay) mid.replay → mid.chart ≡ charted Running event (figures_of mid.replay) old.chart
+    → Steps event (peakless old.replay) mid.replay → mid.chart ≡ charted Running event mid.replay.run.heap old.chart
     → Shown mid events new → Shown old (event_before event events) new
 joins (Ok (Some event)) old mid new events running (outcome, is) chart later = record {
   taken = event ∷ later.taken;
@@ -171,7 +171,7 @@ joins (Ok (Some event)) old mid new events running (outcome, is) chart later = r
   all = later.all;
   was_running = λ runs. running;
   halted = λ stops. absurd (not_stopped old.replay running stops);
-  levels = levels_of (figures_of mid.replay) ∷ later.levels;
+  levels = levels_of mid.replay.run.heap.totals (usage_of mid.replay.run.heap.memory) ∷ later.levels;
   runs = (outcome, mid.replay.run.heap, is, event_levels old.replay.run.heap event outcome mid.replay is, later.runs);
   chart = later.chart ∙ ap (with_events later.levels) chart;
 }
@@ -192,7 +192,7 @@ passes old mid new events others line text is_error stops is taken later = recor
   runs = from_peakless old.replay.run.heap new.replay.run.heap later.taken later.levels
       (subst (λ (h : Heap). RunsWithLevels h later.taken later.levels new.replay.run.heap) (ap (λ (s : ReplayState). s.run.heap) is) later.runs);
   chart = later.chart ∙ ap (with_events later.levels) (taken.chart
-      ∙ ap (λ (p : Progress). charted p (next_entry replaying old.replay line).event (figures_of mid.replay) old.chart) stops);
+      ∙ ap (λ (p : Progress). charted p (next_entry replaying old.replay line).event mid.replay.run.heap old.chart) stops);
 } where
   stopped : mid.replay.progress ≡ Stopped
   stopped = ap (λ (s : ReplayState). s.progress) is ∙ stops
@@ -210,7 +210,7 @@ line_shows old mid new line text is_error entries charts (inl taken) later =
     ap (λ (reading : Reading). events_in reading.format mid.replay.pending entries) taken.reads.0
     ∙ ap (λ (pending : Option ℕ). events_in old.replay.reading.format pending entries) taken.reads.1 in
     joins entry.event old mid new (events_in old.replay.reading.format entry.pending entries) taken.running taken.steps
-    (charts.chart ∙ ap (λ (p : Progress). charted p entry.event (figures_of mid.replay) old.chart) taken.running)
+    (charts.chart ∙ ap (λ (p : Progress). charted p entry.event mid.replay.run.heap old.chart) taken.running)
     (subst (λ (events : List Event). Shown mid events new) same later)
 line_shows old mid new line text is_error entries charts (inr (stops, is)) later =
     passes old mid new (events_from old.replay (line ∷ entries)) (events_from mid.replay entries) line text is_error stops is charts later

@@ -4,19 +4,22 @@ use Rattle.cc_bounds.specs.Align.{align_bytes}
 use Rattle.cc_heap.specs.declared.levels.Levels.{Levels}
 use Rattle.cc_heap.specs.Chart.{Chart, no_chart, with_event}
 use Rattle.cc_heap.specs.ChartDrawing.{chart_text}
+use Rattle.cc_heap.specs.Heap.{Heap}
 use Rattle.cc_heap.specs.Lost.{empty_run}
+use Rattle.cc_heap.specs.Memory.{usage_of}
 use Rattle.cc_heap.specs.Peaks.{without_peaks}
 use Rattle.cc_heap.specs.Totals.{capped_sum}
 use Rattle.cc_heap.specs.declared.settings.Settings.{Settings}
+use Rattle.cc_heap.specs.declared.totals.Totals.{Totals}
+use Rattle.cc_heap.specs.declared.usage.Usage.{Usage}
 use Rattle.cc_placer.specs.declared.event.Event.{Event}
 use Rattle.cc_word.specs.declared.refusal.Refusal.{Refusal}
 use Rattle.cc_replay.specs.PolicyText.{policy_text}
-use Rattle.cc_replay.specs.Replay.{ReplayState, TakesLine, TakesRest, begun, figures_of, replaying}
+use Rattle.cc_replay.specs.Replay.{ReplayState, TakesLine, TakesRest, begun, replaying}
 use Rattle.cc_replay.specs.Taking.{next_entry}
 use Rattle.cc_replay.specs.declared.reading.Progress.{Progress}
 use Rattle.cc_replay.specs.declared.reading.Progress.TheVariants.{Running}
 use Rattle.cc_replay.specs.declared.reading.Reading.{Reading}
-use Rattle.cc_replay.specs.declared.summary.Figures.{Figures}
 
 -- A replay, and the chart of its heap.
 pub record Charted : Type 0 where
@@ -31,20 +34,20 @@ begun_chart settings reading = record { replay = begun (empty_run settings) read
 abbrev pub peakless : ReplayState → ReplayState
 peakless state = record state { run = record state.run { heap = without_peaks state.run.heap } }
 
--- The levels of an event, from the numbers after it, if the peaks were forgotten before it: the larger of each peak
--- and of the heap's number, and the high-water mark.
-abbrev pub levels_of : Figures → Levels
-levels_of figures = record {
-  live = max figures.totals.peak_live figures.usage.live;
-  quarantine = max figures.totals.peak_quarantine figures.usage.quarantine;
-  held = max figures.totals.peak_held (capped_sum (figures.usage.live + figures.usage.quarantine));
-  high = figures.totals.high;
+-- The levels of an event, from the numbers of the heap after it, if the peaks were forgotten before it: the larger of
+-- each peak and of the heap's number, and the high-water mark.
+abbrev pub levels_of : Totals → Usage → Levels
+levels_of totals usage = record {
+  live = max totals.peak_live usage.live;
+  quarantine = max totals.peak_quarantine usage.quarantine;
+  held = max totals.peak_held (capped_sum (usage.live + usage.quarantine));
+  high = totals.high;
 }
 
--- The chart with the levels of a line's entry, if it is an event, and lines are taken.
-abbrev pub charted : Progress → Result (Option Event) Refusal → Figures → Chart → Chart
-charted Running (Ok (Some event)) figures chart = with_event (levels_of figures) chart
-charted _ _ figures chart = chart
+-- The chart with the levels of a line's entry, if it is an event, and lines are taken, from the heap after the line.
+abbrev pub charted : Progress → Result (Option Event) Refusal → Heap → Chart → Chart
+charted Running (Ok (Some event)) heap chart = with_event (levels_of heap.totals (usage_of heap.memory)) chart
+charted _ _ heap chart = chart
 
 -- The caption of the chart of a heap with these settings: its policy and its alignment.
 abbrev pub caption_of : Settings → List ℕ
@@ -57,7 +60,7 @@ charted_text settings state = chart_text (caption_of settings) state.chart
 -- ChartsLine holds if the line is taken, and the levels of its event, if it is one, join the chart.
 pub record ChartsLine (old : Charted) (line text : List ℕ) (is_error : Bool) (new : Charted) : Type 0 where
   pub takes : TakesLine (peakless old.replay) line text is_error new.replay
-  pub chart : new.chart ≡ charted old.replay.progress (next_entry replaying old.replay line).event (figures_of new.replay) old.chart
+  pub chart : new.chart ≡ charted old.replay.progress (next_entry replaying old.replay line).event new.replay.run.heap old.chart
 
 -- ChartsRest holds if the trailing bytes are taken, and the chart stays the same.
 pub record ChartsRest (old : Charted) (rest text : List ℕ) (is_error : Bool) (new : Charted) : Type 0 where

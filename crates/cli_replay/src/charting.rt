@@ -18,10 +18,10 @@ ghost use Rattle.cli_replay.specs.Settings.{IsForHeap};
 
 use crate::replay_values::ReplayRequest;
 use crate::takers::{TracePrinter, TraceTaker, ran_out};
-use cc_heap::{Chart, Levels, write_chart};
+use cc_heap::{Chart, Heap, Levels, Totals, Usage, write_chart};
 use cc_io::{Answerer, IoError, Line, Lines, Page, Pending, Sink, Source, Summary, pump};
 use cc_placer::Placer;
-use cc_replay::{Entry, Figures, MOST_SAMPLE, Replay, Settings, push_policy};
+use cc_replay::{Entry, MOST_SAMPLE, Replay, Settings, push_policy};
 use std::alloc::{AllocError, Global};
 use std::marker::Model;
 
@@ -54,19 +54,18 @@ fn caption_of(settings: Settings) -> Line
 }
 
 /// Adds the levels of a line to the chart, if its entry is an event.
-fn add_event(chart: &mut Chart, entry: Entry, figures: &Figures)
-    ensures { chart.new ≡ charted Running entry.event figures.now chart.old }
+fn add_event<P: Placer>(chart: &mut Chart, entry: Entry, heap: &Heap<P>)
+    ensures { chart.new ≡ charted Running entry.event heap.now chart.old }
 {
     if let Ok(Some(_)) = entry.event {
-        chart.add(levels_of(figures));
+        chart.add(levels_of(heap.totals(), heap.usage()));
     }
 }
 
-/// Returns the levels of an event, from the numbers after it.
-fn levels_of(figures: &Figures) -> Levels
-    ensures { result ≡ levels_of figures.now }
+/// Returns the levels of an event, from the numbers of the heap after it.
+fn levels_of(totals: Totals, usage: Usage) -> Levels
+    ensures { result ≡ levels_of totals usage }
 {
-    let Figures { totals, usage, .. } = figures;
     // the peaks come from the event alone, and are 0 if it changed nothing
     Levels {
         live: totals.peak_live.max(usage.live),
@@ -100,7 +99,7 @@ impl<P: Placer, const N: usize> Answerer<N> for Charting<P> {
         let entry = self.replay.read(line);
         self.replay.forget_peaks();
         let is_refused = self.replay.take_entry(entry, out);
-        add_event(&mut self.chart, entry, &self.replay.figures());
+        add_event(&mut self.chart, entry, self.replay.run().heap());
         is_refused
     }
 
