@@ -1,11 +1,9 @@
 -- A group of replays of one trace, each on its own heap: how it takes a line, and the table of its summaries.
-use Rattle.std.specs.Prelude.{ℕ, Bool, true, false, ◌≡◌, ◌||◌, List, [], ◌∷◌, ◌++◌, codes, map}
+use Rattle.std.specs.Prelude.{ℕ, Bool, false, ◌≡◌, ◌||◌, List, [], ◌∷◌, ◌++◌, codes, map}
 use Rattle.std.specs.List.{list_all, list_any}
 use Rattle.cc_io.specs.Answers.{Relation}
-use Rattle.cc_replay.specs.declared.reading.Progress.{Progress}
-use Rattle.cc_replay.specs.declared.reading.Progress.TheVariants.{OutOfMemory}
 use Rattle.cc_replay.specs.declared.reading.Reading.{Reading}
-use Rattle.cc_replay.specs.Reading.{is_over}
+use Rattle.cc_replay.specs.Reading.{is_over, ran_out}
 use Rattle.cc_heap.specs.Lost.{empty_run}
 use Rattle.cc_heap.specs.declared.policy.Policy.{Policy}
 use Rattle.cc_heap.specs.declared.settings.Settings.{Settings}
@@ -38,11 +36,6 @@ EachTakes {S} Takes (old ∷ others) entry text is_error new =
 -- Whether no replay takes further lines.
 abbrev pub are_over : List ReplayState → Bool
 are_over states = list_all (λ state. is_over state.progress) states
-
--- Whether memory ran out.
-abbrev pub ran_out : Progress → Bool
-ran_out OutOfMemory = true
-ran_out _ = false
 
 -- Whether memory ran out in one of the replays.
 abbrev pub any_ran_out : List ReplayState → Bool

@@ -1,7 +1,7 @@
 -- How a trace is read: when no further line is taken, and which events have a sample.
 use Rattle.std.specs.Prelude.{ℕ, Bool, true, false, not, ◌&&◌, ◌||◌, ◌==◌, ◌%◌, if◌then◌else◌, Option, Some, None, is_some}
 use Rattle.cc_replay.specs.declared.reading.Progress.{Progress}
-use Rattle.cc_replay.specs.declared.reading.Progress.TheVariants.{Running, Stopped}
+use Rattle.cc_replay.specs.declared.reading.Progress.TheVariants.{OutOfMemory, Running, Stopped}
 use Rattle.cc_replay.specs.declared.reading.Reading.{Reading}
 use Rattle.cc_replay.specs.declared.reading.SampleReason.{SampleReason}
 use Rattle.cc_replay.specs.declared.reading.SampleReason.TheVariants.{Regular, Swept}
@@ -10,6 +10,11 @@ use Rattle.cc_replay.specs.declared.reading.SampleReason.TheVariants.{Regular, S
 abbrev pub is_over : Progress → Bool
 is_over Running = false
 is_over _ = true
+
+-- Whether memory ran out.
+abbrev pub ran_out : Progress → Bool
+ran_out OutOfMemory = true
+ran_out _ = false
 
 -- Whether further lines are taken after a line: not if it is refused, and reading is strict.
 abbrev pub progress_after : Reading → (is_refused : Bool) → Progress

@@ -13,14 +13,13 @@ ghost use Rattle.cc_replay.specs.Group.{
   more_policies,
   policies_text,
   policy_rows,
-  ran_out,
 };
 
+use crate::Reading;
 use crate::replay::Replay;
 use crate::rows::{between_rows, end_of, push_heading, push_row};
 use crate::summary::{MOST_ROWS, policy_rows};
 use crate::table::{Format, Row};
-use crate::{Progress, Reading};
 use arrayvec::ArrayVec;
 use cc_heap::{Policy, Settings};
 use cc_io::{Answerer, IoError, Page, Sink, write_and_flush};
@@ -99,7 +98,9 @@ impl<P: Placer> ReplayGroup<P> {
     pub fn is_out_of_memory(&self) -> bool
         ensures { result ≡ any_ran_out self.now }
     {
-        self.replays.iter().any(|replay| ran_out(replay.progress()))
+        self.replays
+            .iter()
+            .any(|replay| replay.progress().is_out_of_memory())
     }
 
     /// Writes the table of the summaries, a row for each replay, in a format, and flushes the sink. The first
@@ -115,16 +116,6 @@ impl<P: Placer> ReplayGroup<P> {
         let mut page: Page<MOST_TABLE> = Page::new();
         push_policies(&mut page, format, self.replays.as_slice());
         write_and_flush(&page, sink)
-    }
-}
-
-/// Returns whether memory ran out.
-fn ran_out(progress: Progress) -> bool
-    ensures { result ≡ ran_out progress }
-{
-    match progress {
-        Progress::OutOfMemory => true,
-        Progress::Running | Progress::Stopped => false,
     }
 }
 

@@ -1,6 +1,6 @@
 //! How a trace is read.
 ghost use Rattle.std.specs.Prelude.{◌≡◌};
-ghost use Rattle.cc_replay.specs.Reading.{is_due, is_over, is_regular, progress_after, reason_of};
+ghost use Rattle.cc_replay.specs.Reading.{is_due, is_over, is_regular, progress_after, ran_out, reason_of};
 
 use crate::formats::TraceFormat;
 
@@ -46,6 +46,16 @@ impl Progress {
         match self {
             Progress::Running => false,
             Progress::Stopped | Progress::OutOfMemory => true,
+        }
+    }
+
+    /// Returns whether an allocation failed.
+    pub fn is_out_of_memory(self) -> bool
+        ensures { result ≡ ran_out self }
+    {
+        match self {
+            Progress::OutOfMemory => true,
+            Progress::Running | Progress::Stopped => false,
         }
     }
 }

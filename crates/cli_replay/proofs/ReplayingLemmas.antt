@@ -12,7 +12,8 @@ use Rattle.cc_replay.specs.declared.reading.Reading.{Reading}
 use Rattle.cc_heap.specs.Lost.{empty_run}
 use Rattle.cc_heap.specs.declared.policy.Policy.{Policy}
 use Rattle.cc_heap.specs.declared.settings.Settings.{Settings}
-use Rattle.cc_replay.specs.Group.{any_ran_out, begun_group, ran_out}
+use Rattle.cc_replay.specs.Group.{any_ran_out, begun_group}
+use Rattle.cc_replay.specs.Reading.{ran_out}
 use Rattle.cc_replay.specs.Replay.{ReplayState, begun, last_sample}
 use Rattle.cc_replay.specs.Script.{ScriptState}
 use Rattle.cli.specs.Devices.{Console, FromInput, OnDevices, Traffic, traffic_of}

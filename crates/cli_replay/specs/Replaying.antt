@@ -5,14 +5,14 @@ use Rattle.cc_io.specs.Frames.{lines}
 use Rattle.cc_io.specs.declared.summary.IoError.{IoError}
 use Rattle.cc_io.specs.declared.summary.Summary.{Summary}
 use Rattle.cc_heap.specs.Lost.{empty_run}
-use Rattle.cc_replay.specs.Group.{EachTakes, any_ran_out, are_over, begun_group, policies_text, ran_out}
+use Rattle.cc_replay.specs.Group.{EachTakes, any_ran_out, are_over, begun_group, policies_text}
 use Rattle.cc_replay.specs.Replay.{ReplayState, TakesLine, TakesRest, begun, figures_of, last_sample, most_sample, series_header}
 use Rattle.cc_replay.specs.Rows.{table_text}
 use Rattle.cc_replay.specs.Script.{ScriptState, ScriptsLine, ScriptsRest, script_begun}
 use Rattle.cc_replay.specs.SizeTable.{sizes_text}
 use Rattle.cc_replay.specs.Summary.{summary_rows}
 use Rattle.cc_replay.specs.declared.reading.Reading.{Reading}
-use Rattle.cc_replay.specs.Reading.{is_over}
+use Rattle.cc_replay.specs.Reading.{is_over, ran_out}
 use Rattle.cc_heap.specs.declared.policy.Policy.{Policy}
 use Rattle.cc_heap.specs.declared.settings.Settings.{Settings}
 use Rattle.cc_replay.specs.declared.table.Format.{Format}

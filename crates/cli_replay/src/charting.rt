@@ -1,8 +1,7 @@
 //! A replay whose heap is drawn as a chart.
 ghost use Rattle.std.specs.Prelude.{◌≡◌, ◌≤◌, length};
-ghost use Rattle.cc_replay.specs.Reading.{is_over};
+ghost use Rattle.cc_replay.specs.Reading.{is_over, ran_out};
 ghost use Rattle.cc_replay.specs.declared.reading.Progress.TheVariants.{Running};
-ghost use Rattle.cc_replay.specs.Group.{ran_out};
 ghost use Rattle.cc_replay.specs.Replay.{most_sample};
 ghost use Rattle.cli_replay.specs.Charting.{
   ChartsLine,
@@ -17,7 +16,7 @@ ghost use Rattle.cli_replay.specs.Replaying.{Charts};
 ghost use Rattle.cli_replay.specs.Settings.{IsForHeap};
 
 use crate::replay_values::ReplayRequest;
-use crate::takers::{TracePrinter, TraceTaker, ran_out};
+use crate::takers::{TracePrinter, TraceTaker};
 use cc_heap::{Chart, Heap, Levels, Totals, Usage, write_chart};
 use cc_io::{Answerer, IoError, Line, Lines, Page, Pending, Sink, Source, Summary, pump};
 use cc_placer::Placer;
@@ -136,7 +135,7 @@ impl<P: Placer> TraceTaker for Charting<P> {
     }
 
     fn has_run_out(&self) -> bool {
-        ran_out(self.replay.progress())
+        self.replay.progress().is_out_of_memory()
     }
 }
 

@@ -3,10 +3,10 @@ ghost use Rattle.std.specs.Prelude.{◌≡◌, ℕ, Bool, List, Option, Result, 
 ghost use Rattle.cc_io.specs.Devices.{IsOutcome, SendsBytes};
 ghost use Rattle.cc_io.specs.declared.summary.IoError.{IoError as IoErrorSpec};
 ghost use Rattle.cc_io.specs.declared.summary.Summary.{Summary as SummarySpec};
-ghost use Rattle.cc_replay.specs.Reading.{is_over};
+ghost use Rattle.cc_replay.specs.Reading.{is_over, ran_out};
 ghost use Rattle.cc_heap.specs.declared.settings.Settings.{Settings as SettingsSpec};
 ghost use Rattle.cc_heap.specs.Lost.{empty_run};
-ghost use Rattle.cc_replay.specs.Group.{any_ran_out, are_over, begun_group, ran_out};
+ghost use Rattle.cc_replay.specs.Group.{any_ran_out, are_over, begun_group};
 ghost use Rattle.cc_replay.specs.Replay.{begun};
 ghost use Rattle.cc_replay.specs.Script.{script_begun};
 ghost use Rattle.cli_replay.specs.Replaying.{GroupReplays, Replays, Writes};
@@ -18,8 +18,7 @@ use crate::replay_values::ReplayRequest;
 use cc_io::{IoError, Lines, Pending, Sink, Source, Summary, pump};
 use cc_placer::Placer;
 use cc_replay::{
-    Format, Progress, Replay, ReplayGroup, Script, replay_trace, script_trace, write_sizes,
-    write_summary,
+    Format, Replay, ReplayGroup, Script, replay_trace, script_trace, write_sizes, write_summary,
 };
 use cli::{ReplayOutput, SummaryFormat};
 use std::alloc::{AllocError, Global};
@@ -106,7 +105,7 @@ impl<P: Placer> TraceTaker for Replay<P> {
     }
 
     fn has_run_out(&self) -> bool {
-        ran_out(self.progress())
+        self.progress().is_out_of_memory()
     }
 }
 
@@ -188,15 +187,8 @@ impl<P: Placer> TraceTaker for Script<P> {
     }
 
     fn has_run_out(&self) -> bool {
-        ran_out(self.progress())
+        self.progress().is_out_of_memory()
     }
-}
-
-/// Returns whether memory ran out.
-pub(crate) fn ran_out(progress: Progress) -> bool
-    ensures { result ≡ ran_out progress }
-{
-    matches!(progress, Progress::OutOfMemory)
 }
 
 /// Returns the format of the tables of an output, or text.
