@@ -1,5 +1,5 @@
 //! A heap over a trace, and the ids whose objects were not made.
-ghost use Rattle.std.specs.Prelude.{◌≡◌, ℕ, [], IfOk, IfSome, OnOk, ◌<◌};
+ghost use Rattle.std.specs.Prelude.{◌≡◌, ℕ, [], IfOk, IfSome, OnOk, ◌<◌, false};
 ghost use Rattle.cc_placer.specs.Alignment.{HasAlignment};
 ghost use Rattle.cc_heap.specs.Lost.{IsRunEvent, is_lost, is_lost_one, is_not_made, noted};
 ghost use Rattle.cc_heap.specs.Memory.{IsSoundMemory};
@@ -57,8 +57,7 @@ impl<P: Placer> Run<P> {
     {
         let align = self.heap.settings().align;
         let outcome = self.heap.event(event)?;
-        let was_lost = self.is_lost(event.freed_id());
-        self.note(event.freed_id(), false)?;
+        let was_lost = self.forget(event.freed_id());
         self.note(event.made_id(), is_not_made(outcome.making))?;
         count_made(&mut self.sizes, align, made_size(event, outcome.making));
         Ok(Outcome {
@@ -90,12 +89,15 @@ impl<P: Placer> Run<P> {
         &self.sizes
     }
 
-    /// Returns whether the id, if there is one, is lost.
-    fn is_lost(&self, id: Option<u64>) -> bool
-        ensures { result ≡ is_lost_one self.now.lost id }
+    /// Notes that the id, if there is one, is not lost. Returns whether it was.
+    fn forget(&mut self, id: Option<u64>) -> bool
+        ensures was { result ≡ is_lost_one self.old.lost id }
+        ensures noted { (other : ℕ) → is_lost self.new.lost other ≡ noted id false (is_lost self.old.lost) other }
+        ensures heap { self.new.heap ≡ self.old.heap }
+        ensures sizes { self.new.sizes ≡ self.old.sizes }
     {
         match id {
-            Some(id) => self.lost.contains(&id),
+            Some(id) => self.lost.remove(&id),
             None => false,
         }
     }
@@ -107,14 +109,14 @@ impl<P: Placer> Run<P> {
         ensures heap { self.new.heap ≡ self.old.heap }
         ensures sizes { self.new.sizes ≡ self.old.sizes }
     {
-        let Some(id) = id else {
-            return Ok(());
-        };
-        if lost {
-            self.lost.insert(id)?;
-            return Ok(());
+        match id {
+            Some(id) if lost => {
+                self.lost.insert(id)?;
+            }
+            _ => {
+                self.forget(id);
+            }
         }
-        self.lost.remove(&id);
         Ok(())
     }
 }
