@@ -3,7 +3,6 @@ ghost use Rattle.std.specs.Prelude.{◌≡◌, ◌≤◌, ◌<◌, ◌+◌, ◌*
 ghost use Rattle.cc_heap.specs.Scale.{decade, event_step, reach_of, step_count, step_power, top_of};
 
 use crate::levels::Levels;
-use cc_io::Line;
 
 /// Returns the bytes that the vertical axis has to reach.
 pub(crate) fn reach_of(most: Levels) -> u128
@@ -67,11 +66,7 @@ fn decade(events: u128) -> u128
     ensures value { result ≡ decade events }
     ensures fits { result ≤ 10 ^ 30 }
 {
-    // the power has a zero for each digit of the number after the first
-    let mut digits = Line::new();
-    digits.push_decimal(events);
-    let zeros = digits.len().saturating_sub(1).min(30) as u32;
-    power_of_ten(zeros)
+    power_of_ten(events.max(1).ilog10().min(30))
 }
 
 /// Returns the number of events from one label to the next.
