@@ -127,6 +127,7 @@ fn count_made(sizes: &mut [SizeTotals; 64], align: Align, size: Option<u64>)
     ensures { sizes.new ≡ with_made_size align size sizes.old }
 {
     if let Some(size) = size {
+        // the heap has padded the size, but `Making::Made` does not have the object's span
         count_size(sizes, size, padded_size(align, u128::from(size)));
     }
 }

@@ -15,8 +15,8 @@ use std::alloc::AllocError;
 /// The memory for the heap of a trace, which grows while lines are taken.
 ///
 /// A taker allocates by itself, and reports that memory ran out: [`TraceMemory::fail_if`] makes that a failure of the
-/// memory, of which the contracts speak. It has no parameter, so that no caller can bring one whose allocations always
-/// fail.
+/// memory, of which the contracts speak. This trait has no type parameter for the heap, so that no caller can bring a
+/// heap whose allocations always fail.
 pub trait TraceMemory: Memory {
     /// Checks the values of `replay`, before its trace is read.
     ///

@@ -146,7 +146,7 @@ fn write_at_end<T: TracePrinter, M: TraceMemory, S: Source, W: Sink>(
     ensures allocates { (result ≡ Err Fault.Memory) ↔ (M.has_failed memory.new ≡ true) }
     ensures end { IsEnd false (S.state source.new) (W.state sink.old) (W.state sink.new) result }
 {
-    // such a taker writes nothing before the end of the trace
+    // without a series, a taker writes nothing before the end of the trace
     let summary = taker.take(source, &mut Discard)?;
     memory.fail_if(taker.has_run_out())?;
     taker.write_end(request, sink)?;
