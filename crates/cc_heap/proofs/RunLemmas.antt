@@ -1,7 +1,7 @@
 -- Runs with one event more.
 use Rattle.std.proofs.Common.{ℕ, ◌+◌, ◌<◌, List, [], ◌∷◌, ◌++◌, length, take, get_or, refl, subst}
 use Rattle.std.proofs.lemmas.List.{take_more}
-use Rattle.cc_placer.specs.declared.event.Event.{Event}
+use Rattle.cc_heap.specs.declared.event.Event.{Event}
 use Rattle.cc_heap.specs.declared.outcome.Outcome.{Outcome}
 use Rattle.cc_heap.specs.Heap.{Heap}
 use Rattle.cc_heap.specs.Events.{IsEvent}

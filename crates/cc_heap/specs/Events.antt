@@ -5,8 +5,8 @@
 -- object in its place quarantines and sweeps nothing, and its state counts in the peaks.
 use Rattle.std.specs.Prelude.{ℕ, Bool, true, false, ◌≡◌, ◌≢◌, ◌⊎◌, ◌≤◌, max, Option, Some, None, IsSome, IsNone, MatchOption, length, if◌then◌else◌}
 use Rattle.cc_placer.specs.Placement.{HasNoPlace}
-use Rattle.cc_placer.specs.declared.event.Event.{Event}
-use Rattle.cc_placer.specs.declared.event.Event.TheVariants.{Allocate, Clear, Reallocate, Free, Sweep, Clock}
+use Rattle.cc_heap.specs.declared.event.Event.{Event}
+use Rattle.cc_heap.specs.declared.event.Event.TheVariants.{Allocate, Clear, Reallocate, Free, Sweep, Clock}
 use Rattle.cc_heap.specs.declared.making.Making.{Making}
 use Rattle.cc_heap.specs.declared.making.Making.TheVariants.{Made}
 use Rattle.cc_heap.specs.declared.object.Object.{Object}

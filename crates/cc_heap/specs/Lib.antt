@@ -4,6 +4,8 @@ pub mod Memory
 pub mod Reallocation
 pub mod Totals
 pub mod Heap
+pub mod Alignment
+pub mod Ids
 pub mod Events
 pub mod Outcomes
 pub mod Run

@@ -37,7 +37,7 @@ ghost use Rattle.cc_heap.specs.Heap.{
   swept_memory,
 };
 ghost use Rattle.cc_heap.specs.Reallocation.{can_take};
-ghost use Rattle.cc_placer.specs.Alignment.{HasAlignment};
+ghost use Rattle.cc_heap.specs.Alignment.{HasAlignment};
 ghost use Rattle.cc_heap.specs.Events.{
   AllocatesInHeap,
   AttemptsToReplace,
@@ -66,6 +66,7 @@ ghost use Rattle.cc_heap.specs.Run.{Runs};
 ghost use Rattle.cc_heap.specs.HeapState.{PutsOver, QuarantinesLive, ReleasesLast, Settles};
 
 use crate::entries::put_for;
+use crate::event::Event;
 use crate::making::Making;
 use crate::object::Object;
 use crate::outcome::Outcome;
@@ -74,7 +75,7 @@ use crate::settings::Settings;
 use crate::totals::Totals;
 use crate::usage::Usage;
 use cc_bounds::Span;
-use cc_placer::{Event, Placer};
+use cc_placer::Placer;
 use std::alloc::{AllocError, Global};
 use std::collections::HashMap;
 use std::marker::Model;

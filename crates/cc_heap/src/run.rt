@@ -1,17 +1,18 @@
 //! A heap over a trace, and the ids whose objects were not made.
 ghost use Rattle.std.specs.Prelude.{◌≡◌, ℕ, [], IfOk, IfSome, OnOk, ◌<◌, false};
-ghost use Rattle.cc_placer.specs.Alignment.{HasAlignment};
+ghost use Rattle.cc_heap.specs.Alignment.{HasAlignment};
 ghost use Rattle.cc_heap.specs.Lost.{IsRunEvent, is_lost, is_lost_one, is_not_made, noted};
 ghost use Rattle.cc_heap.specs.Memory.{IsSoundMemory};
 ghost use Rattle.cc_heap.specs.Peaks.{without_peaks};
 ghost use Rattle.cc_heap.specs.Sizes.{no_sizes, with_made_size};
 
+use crate::event::Event;
 use crate::heap::Heap;
 use crate::making::Making;
 use crate::outcome::Outcome;
 use crate::sizes::{NO_OBJECTS, SizeTotals, count_size, made_size};
 use cc_bounds::Align;
-use cc_placer::{Event, Placer, padded_size};
+use cc_placer::{Placer, padded_size};
 use std::alloc::{AllocError, Global};
 use std::collections::HashSet;
 use std::marker::Model;

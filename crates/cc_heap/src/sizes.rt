@@ -2,8 +2,8 @@
 ghost use Rattle.std.specs.Prelude.{◌≡◌, ◌<◌, IfSome};
 ghost use Rattle.cc_heap.specs.Sizes.{asked_size, made_size, with_sized_object, with_size};
 
+use crate::event::Event;
 use crate::making::Making;
-use cc_placer::Event;
 
 /// The numbers of the objects that were made whose sizes are at least a power of two, and below the
 /// next.

@@ -9,8 +9,8 @@ use Rattle.cc_bounds.specs.Span.{length_of}
 use Rattle.cc_placer.specs.Align.{padded_size_for}
 use Rattle.cc_placer.specs.Placement.{HaveSameSpans, IsPlacement}
 use Rattle.cc_placer.proofs.SameSpansLemmas.{permutation_from_sums, placement_along, place_along}
-use Rattle.cc_placer.specs.declared.event.Event.{Event}
-use Rattle.cc_placer.specs.declared.event.Event.TheVariants.{Allocate, Clear, Reallocate, Free, Sweep, Clock}
+use Rattle.cc_heap.specs.declared.event.Event.{Event}
+use Rattle.cc_heap.specs.declared.event.Event.TheVariants.{Allocate, Clear, Reallocate, Free, Sweep, Clock}
 use Rattle.cc_heap.specs.declared.making.Making.{Making}
 use Rattle.cc_heap.specs.declared.making.Making.TheVariants.{Made, NoRoom, Full}
 use Rattle.cc_heap.specs.declared.object.Object.{Object}

@@ -7,7 +7,7 @@ use Rattle.cc_io.specs.Lines.{lines_of}
 use Rattle.cc_heap.specs.declared.levels.Levels.{Levels}
 use Rattle.cc_heap.specs.Chart.{Chart, IsChartOf, with_events}
 use Rattle.cc_laws.proofs.ChartLemmas.{shows_all}
-use Rattle.cc_placer.specs.declared.event.Event.{Event}
+use Rattle.cc_heap.specs.declared.event.Event.{Event}
 use Rattle.cc_heap.specs.declared.outcome.Outcome.{Outcome}
 use Rattle.cc_heap.specs.declared.settings.Settings.{Settings}
 use Rattle.cc_heap.specs.Events.{IsEvent}

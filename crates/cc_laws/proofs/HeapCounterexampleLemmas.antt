@@ -1,7 +1,7 @@
 -- Heaps and runs that break the claims of the laws of heaps.
 use Rattle.std.proofs.Common.{ℕ, true, false, ◌≡◌, ◌+◌, ◌≤◌, List, [], ◌∷◌, None, length, refl, ap, ◌∙◌, arith}
 use Rattle.std.proofs.lemmas.List.Sorted.{IsPermutation-middle, length_permutation}
-use Rattle.cc_placer.specs.declared.event.Event.TheVariants.{Clock}
+use Rattle.cc_heap.specs.declared.event.Event.TheVariants.{Clock}
 use Rattle.cc_heap.specs.declared.object.Object.{Object}
 use Rattle.cc_heap.specs.declared.outcome.Outcome.{Outcome}
 use Rattle.cc_heap.specs.declared.settings.Settings.{Settings}

@@ -16,7 +16,7 @@ use Rattle.cc_machine.specs.State.{State, initial_state}
 use Rattle.cc_machine.specs.Objects.{held_bytes_of, held_spans}
 use Rattle.cc_machine.specs.Run.{Run}
 use Rattle.cc_placer.specs.Placement.{HaveSameSpans}
-use Rattle.cc_placer.specs.declared.event.Event.{Event}
+use Rattle.cc_heap.specs.declared.event.Event.{Event}
 use Rattle.cc_replay.specs.declared.reading.Progress.{Progress}
 use Rattle.cc_replay.specs.declared.reading.Progress.TheVariants.{Running, OutOfMemory}
 use Rattle.cc_replay.specs.declared.reading.Reading.{Reading}

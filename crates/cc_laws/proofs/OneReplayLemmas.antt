@@ -7,7 +7,7 @@ use Rattle.cc_word.specs.declared.refusal.Refusal.TheVariants.{Unfinished}
 use Rattle.cc_bounds.specs.declared.span.Span.{Span}
 use Rattle.cc_io.specs.Answers.{Answer, AnswersAll, EndsWith, Output, answers_text, entries_of, rest_of}
 use Rattle.cc_io.specs.Frames.{lines}
-use Rattle.cc_placer.specs.declared.event.Event.{Event}
+use Rattle.cc_heap.specs.declared.event.Event.{Event}
 use Rattle.cc_replay.specs.declared.reading.Progress.{Progress}
 use Rattle.cc_replay.specs.declared.reading.Progress.TheVariants.{Running, Stopped, OutOfMemory}
 use Rattle.cc_replay.specs.declared.reading.Reading.{Reading}

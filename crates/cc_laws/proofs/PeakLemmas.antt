@@ -1,6 +1,6 @@
 -- The peaks of an event are the largest values over its states.
 use Rattle.std.proofs.Common.{ℕ, max, ◌≡◌, ◌⊎◌, ◌+◌, List, [], ◌∷◌, arith, refl, ◌∙◌, sym, ap, inl, inr}
-use Rattle.cc_placer.specs.declared.event.Event.{Event}
+use Rattle.cc_heap.specs.declared.event.Event.{Event}
 use Rattle.cc_heap.specs.declared.outcome.Outcome.{Outcome}
 use Rattle.cc_heap.specs.declared.totals.Totals.{Totals}
 use Rattle.cc_heap.specs.declared.usage.Usage.{Usage}

@@ -1,8 +1,8 @@
 -- No event depends on the peaks of bytes before it.
 use Rattle.std.proofs.Common.{◌≡◌, ℕ, Bool, true, false, ◌+◌, ◌-◌, max, length, Option, Some, None, refl, sym, ◌∙◌, ap, subst, inl, inr, if◌then◌else◌}
 use Rattle.std.specs.Prelude.{MatchOption}
-use Rattle.cc_placer.specs.declared.event.Event.{Event}
-use Rattle.cc_placer.specs.declared.event.Event.TheVariants.{Allocate, Clear, Reallocate, Free, Sweep, Clock}
+use Rattle.cc_heap.specs.declared.event.Event.{Event}
+use Rattle.cc_heap.specs.declared.event.Event.TheVariants.{Allocate, Clear, Reallocate, Free, Sweep, Clock}
 use Rattle.cc_heap.specs.declared.making.Making.{Making}
 use Rattle.cc_heap.specs.declared.making.Making.TheVariants.{Made, NoRoom, Full}
 use Rattle.cc_heap.specs.declared.object.Object.{Object}

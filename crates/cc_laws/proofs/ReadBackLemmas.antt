@@ -12,9 +12,9 @@ use Rattle.cc_values.specs.Values.{IsWord, address_in, words_of}
 use Rattle.cc_values.specs.Numbers.{within_limit}
 use Rattle.cc_values.proofs.PieceLemmas.{one_join}
 use Rattle.cc_values.proofs.ReadBackLemmas.{decimal-read}
-use Rattle.cc_placer.specs.declared.event.Event.{Event}
-use Rattle.cc_placer.specs.declared.event.Event.TheVariants as event
-use Rattle.cc_placer.specs.Alignment.{HasAlignment}
+use Rattle.cc_heap.specs.declared.event.Event.{Event}
+use Rattle.cc_heap.specs.declared.event.Event.TheVariants as event
+use Rattle.cc_heap.specs.Alignment.{HasAlignment}
 use Rattle.cc_replay.specs.Trace.{HasNumbersInRange, entry_of, event_in, event_text}
 use Rattle.cc_replay.proofs.PowerLemmas.{power_is_one}
 

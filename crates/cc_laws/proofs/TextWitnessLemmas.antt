@@ -5,7 +5,7 @@ use Rattle.std.specs.Fmt.{digits}
 use Rattle.cc_bounds.specs.declared.align.Align.TheVariants.{One}
 use Rattle.cc_values.specs.declared.op.Op.TheVariants.{Addr}
 use Rattle.cc_machine.specs.Run.{IsInAddressSpace}
-use Rattle.cc_placer.specs.declared.event.Event.TheVariants.{Allocate, Free}
+use Rattle.cc_heap.specs.declared.event.Event.TheVariants.{Allocate, Free}
 use Rattle.cc_replay.specs.Changes.{AsksForUnit}
 use Rattle.cc_replay.specs.Trace.{HasNumbersInRange}
 use Rattle.cc_replay.specs.Mtrace.{IsCaller, allocation_line, free_line}

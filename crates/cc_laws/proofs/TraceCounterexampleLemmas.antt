@@ -8,8 +8,8 @@ use Rattle.cc_values.specs.declared.op.Op.{Op}
 use Rattle.cc_values.specs.declared.reply.Reply.TheVariants.{Allocated, Refused}
 use Rattle.cc_machine.specs.State.{State}
 use Rattle.cc_machine.specs.Run.{Run}
-use Rattle.cc_placer.specs.declared.event.Event.{Event}
-use Rattle.cc_placer.specs.declared.event.Event.TheVariants.{Clock}
+use Rattle.cc_heap.specs.declared.event.Event.{Event}
+use Rattle.cc_heap.specs.declared.event.Event.TheVariants.{Clock}
 use Rattle.cc_heap.specs.declared.levels.Levels.{Levels}
 use Rattle.cc_heap.specs.Chart.{IsChartOf, no_chart}
 use Rattle.cc_heap.specs.Levels.{greatest_of, no_levels}

@@ -23,8 +23,8 @@ use Rattle.cc_machine.specs.Step.{Step}
 use Rattle.cc_machine.specs.Run.{Run}
 use Rattle.cc_placer.specs.Align.{padded_size_for, unit_of}
 use Rattle.cc_placer.specs.Placement.{IsPlacement}
-use Rattle.cc_placer.specs.declared.event.Event.{Event}
-use Rattle.cc_placer.specs.declared.event.Event.TheVariants as event
+use Rattle.cc_heap.specs.declared.event.Event.{Event}
+use Rattle.cc_heap.specs.declared.event.Event.TheVariants as event
 use Rattle.cc_replay.specs.declared.reading.Progress.TheVariants.{Running}
 use Rattle.cc_heap.specs.declared.making.Making.TheVariants.{Made}
 use Rattle.cc_heap.specs.declared.object.Object.{Object}

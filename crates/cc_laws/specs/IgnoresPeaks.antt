@@ -1,6 +1,6 @@
 -- Events that do not depend on the peaks of bytes before them.
 use Rattle.std.specs.Prelude.{◌≡◌}
-use Rattle.cc_placer.specs.declared.event.Event.{Event}
+use Rattle.cc_heap.specs.declared.event.Event.{Event}
 use Rattle.cc_heap.specs.declared.outcome.Outcome.{Outcome}
 use Rattle.cc_heap.specs.Events.{IsEvent}
 use Rattle.cc_heap.specs.Heap.{Heap}

@@ -11,7 +11,7 @@ use Rattle.cc_syntax.specs.Commands.{operation_of}
 use Rattle.cc_machine.specs.State.{State}
 use Rattle.cc_machine.specs.Objects.{held_spans}
 use Rattle.cc_machine.specs.Run.{Run}
-use Rattle.cc_placer.specs.declared.event.Event.{Event}
+use Rattle.cc_heap.specs.declared.event.Event.{Event}
 use Rattle.cc_heap.specs.declared.object.Object.{Object}
 use Rattle.cc_heap.specs.declared.settings.Settings.{Settings}
 use Rattle.cc_heap.specs.Memory.{memory_spans as heap_spans}

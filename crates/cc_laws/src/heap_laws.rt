@@ -1,6 +1,6 @@
 //! Laws of the runs of a heap.
 ghost use Rattle.std.specs.Prelude.{List, ◌≡◌};
-ghost use Rattle.cc_placer.specs.declared.event.Event.{Event};
+ghost use Rattle.cc_heap.specs.declared.event.Event.{Event};
 ghost use Rattle.cc_heap.specs.declared.outcome.Outcome.{Outcome};
 ghost use Rattle.cc_heap.specs.declared.settings.Settings.{Settings};
 ghost use Rattle.cc_heap.specs.Events.{IsEvent};

@@ -1,7 +1,7 @@
 //! Proves that no claim of the laws of heaps holds for everything: heaps, or runs, break it. Each
 //! function here does nothing, and its contract is the claim.
 ghost use Rattle.std.specs.Prelude.{ℕ, true, false, [], ◌∷◌, None};
-ghost use Rattle.cc_placer.specs.declared.event.Event.TheVariants.{Clock};
+ghost use Rattle.cc_heap.specs.declared.event.Event.TheVariants.{Clock};
 ghost use Rattle.cc_heap.specs.declared.object.Object.{Object};
 ghost use Rattle.cc_heap.specs.declared.outcome.Outcome.{Outcome};
 ghost use Rattle.cc_heap.specs.declared.settings.Settings.{Settings};

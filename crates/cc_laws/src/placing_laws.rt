@@ -11,7 +11,7 @@ ghost use Rattle.cc_syntax.specs.Planning.{plan_opening};
 ghost use Rattle.cc_machine.specs.State.{State, initial_state};
 ghost use Rattle.cc_machine.specs.Objects.{held_bytes_of};
 ghost use Rattle.cc_machine.specs.Run.{Run};
-ghost use Rattle.cc_placer.specs.declared.event.Event.{Event};
+ghost use Rattle.cc_heap.specs.declared.event.Event.{Event};
 ghost use Rattle.cc_heap.specs.declared.reallocation.Reallocation.TheVariants.{Move};
 ghost use Rattle.cc_heap.specs.declared.settings.Settings.{Settings};
 ghost use Rattle.cc_heap.specs.Heap.{Heap, empty_heap};

@@ -3,8 +3,8 @@ ghost use Rattle.std.specs.Prelude.{◌≡◌, ◌≢◌, ℕ, Bool, false, List
 ghost use Rattle.cc_io.specs.Answers.{Output};
 ghost use Rattle.cc_io.specs.Frames.{lines};
 ghost use Rattle.cc_io.specs.Lines.{lines_of};
-ghost use Rattle.cc_placer.specs.declared.event.Event.{Event};
-ghost use Rattle.cc_placer.specs.Alignment.{HasAlignment};
+ghost use Rattle.cc_heap.specs.declared.event.Event.{Event};
+ghost use Rattle.cc_heap.specs.Alignment.{HasAlignment};
 ghost use Rattle.cc_heap.specs.Lost.{RunsNoting, empty_run};
 ghost use Rattle.cc_heap.specs.declared.settings.Settings.{Settings};
 ghost use Rattle.cc_replay.specs.declared.reading.Reading.{Reading};

@@ -5,8 +5,8 @@ ghost use Rattle.std.specs.Prelude.{◌≡◌, ◌<◌, ◌≤◌, ◌-◌, ◌^
 ghost use Rattle.cc_bounds.specs.declared.align.Align.TheVariants.{One};
 ghost use Rattle.cc_values.specs.declared.op.Op.TheVariants.{Addr};
 ghost use Rattle.cc_machine.specs.Run.{IsInAddressSpace};
-ghost use Rattle.cc_placer.specs.Alignment.{HasAlignment};
-ghost use Rattle.cc_placer.specs.declared.event.Event.TheVariants.{Allocate, Free};
+ghost use Rattle.cc_heap.specs.Alignment.{HasAlignment};
+ghost use Rattle.cc_heap.specs.declared.event.Event.TheVariants.{Allocate, Free};
 ghost use Rattle.cc_replay.specs.Changes.{AsksForUnit};
 ghost use Rattle.cc_heap.specs.ChartDrawing.{byte_unit, event_letter, event_unit};
 ghost use Rattle.cc_replay.specs.Trace.{HasNumbersInRange};

@@ -5,7 +5,7 @@ ghost use Rattle.cc_word.specs.declared.refusal.Refusal.{Refusal};
 ghost use Rattle.cc_bounds.specs.Span.{span_from};
 ghost use Rattle.cc_values.specs.declared.reply.Reply.TheVariants.{Allocated, Refused};
 ghost use Rattle.cc_machine.specs.State.{State};
-ghost use Rattle.cc_placer.specs.declared.event.Event.TheVariants.{Clock};
+ghost use Rattle.cc_heap.specs.declared.event.Event.TheVariants.{Clock};
 ghost use Rattle.cc_heap.specs.declared.levels.Levels.{Levels};
 ghost use Rattle.cc_heap.specs.Chart.{IsChartOf, no_chart};
 ghost use Rattle.cc_heap.specs.Levels.{no_levels};

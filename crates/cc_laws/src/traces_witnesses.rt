@@ -10,7 +10,7 @@ ghost use Rattle.cc_values.specs.declared.reply.Reply.{Reply};
 ghost use Rattle.cc_machine.specs.State.{State, initial_state};
 ghost use Rattle.cc_machine.specs.Run.{Run};
 ghost use Rattle.cc_syntax.specs.Planning.{plan_opening};
-ghost use Rattle.cc_placer.specs.declared.event.Event.TheVariants.{Allocate, Free, Sweep};
+ghost use Rattle.cc_heap.specs.declared.event.Event.TheVariants.{Allocate, Free, Sweep};
 ghost use Rattle.cc_heap.specs.declared.policy.Policy.TheVariants.{Trace};
 ghost use Rattle.cc_heap.specs.Heap.{Heap, empty_heap};
 ghost use Rattle.cc_heap.specs.Lost.{empty_run};

@@ -2,5 +2,3 @@
 pub mod Placement
 pub mod PlacerState
 pub mod Align
-pub mod Alignment
-pub mod Ids

@@ -2,12 +2,10 @@
 //! to them.
 #![tactic(auto)]
 
-mod event;
 mod hint;
 mod placer;
 mod units;
 
-pub use event::Event;
 pub use hint::Hint;
 pub use placer::Placer;
 pub use units::{padded_size, round_up, unit};

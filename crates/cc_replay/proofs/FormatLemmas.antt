@@ -3,7 +3,7 @@ use Rattle.std.proofs.Common.{◌≡◌, ℕ, List, take, Option, Result, ap}
 use Rattle.cc_word.specs.declared.refusal.Refusal.{Refusal}
 use Rattle.cc_replay.specs.declared.report.LineReport.{LineReport}
 use Rattle.cc_replay.proofs.StartLemmas.{heaptrack_start, ltrace_start, mtrace_start}
-use Rattle.cc_placer.specs.declared.event.Event.{Event}
+use Rattle.cc_heap.specs.declared.event.Event.{Event}
 use Rattle.cc_replay.specs.declared.formats.TraceFormat.{TraceFormat}
 use Rattle.cc_replay.specs.declared.formats.TraceFormat.TheVariants.{Own, Mtrace, Heaptrack, Ltrace}
 use Rattle.cc_replay.specs.Formats.{entry_from, entry_in, entry_with}

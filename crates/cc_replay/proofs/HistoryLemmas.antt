@@ -15,8 +15,8 @@ use Rattle.cc_placer.specs.Align.{padded_size_for, unit_of}
 use Rattle.cc_placer.proofs.AlignLemmas.{padded_for-enough, unit-some}
 use Rattle.cc_values.specs.declared.op.Op.{Op}
 use Rattle.cc_values.specs.declared.op.Op.TheVariants.{Alloc, Sweep as SweepOp}
-use Rattle.cc_placer.specs.declared.event.Event.{Event}
-use Rattle.cc_placer.specs.declared.event.Event.TheVariants.{Allocate, Clear, Reallocate, Free, Sweep, Clock}
+use Rattle.cc_heap.specs.declared.event.Event.{Event}
+use Rattle.cc_heap.specs.declared.event.Event.TheVariants.{Allocate, Clear, Reallocate, Free, Sweep, Clock}
 use Rattle.cc_heap.specs.declared.making.Making.{Making}
 use Rattle.cc_heap.specs.declared.making.Making.TheVariants.{Made, NoRoom, Full}
 use Rattle.cc_heap.specs.declared.object.Object.{Object}

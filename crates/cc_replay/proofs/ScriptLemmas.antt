@@ -5,8 +5,8 @@ use Rattle.std.proofs.lemmas.Bool.Decides.{nat_tests}
 use Rattle.std.proofs.lemmas.List.{append-nil}
 use Rattle.std.proofs.lemmas.List.Elements.{All-nil}
 use Rattle.cc_bounds.specs.declared.align.Align.{Align}
-use Rattle.cc_placer.specs.declared.event.Event.{Event}
-use Rattle.cc_placer.specs.declared.event.Event.TheVariants.{Allocate, Clear, Reallocate, Free, Sweep, Clock}
+use Rattle.cc_heap.specs.declared.event.Event.{Event}
+use Rattle.cc_heap.specs.declared.event.Event.TheVariants.{Allocate, Clear, Reallocate, Free, Sweep, Clock}
 use Rattle.cc_heap.specs.declared.outcome.Outcome.{Outcome}
 use Rattle.cc_heap.specs.declared.reallocation.Reallocation.TheVariants.{Move}
 use Rattle.cc_heap.specs.declared.settings.Settings.{Settings}

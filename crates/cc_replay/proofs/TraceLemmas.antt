@@ -7,8 +7,8 @@ use Rattle.cc_word.specs.declared.refusal.Refusal.{Refusal}
 use Rattle.cc_word.specs.declared.refusal.Refusal.TheVariants as refusal
 use Rattle.cc_values.specs.Values.{address_in, both, single, words_of}
 use Rattle.cc_values.proofs.SpaceLemmas.{address_in_single}
-use Rattle.cc_placer.specs.declared.event.Event.{Event}
-use Rattle.cc_placer.specs.declared.event.Event.TheVariants as event
+use Rattle.cc_heap.specs.declared.event.Event.{Event}
+use Rattle.cc_heap.specs.declared.event.Event.TheVariants as event
 use Rattle.cc_replay.specs.Trace.{alignment_in, allocation_in, as_alignment, clearing_in, entry_of, pair_in, reallocation_in, single_in, sweep_in, with_trace_values}
 
 -- If one of two values is no number, the error is `Syntax`.

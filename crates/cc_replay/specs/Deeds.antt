@@ -5,14 +5,14 @@ use Rattle.std.specs.List.{AllByRecursion}
 use Rattle.std.specs.Map.{lookup}
 use Rattle.cc_values.specs.declared.op.Op.{Op}
 use Rattle.cc_values.specs.declared.op.Op.TheVariants.{Alloc, Sweep}
-use Rattle.cc_placer.specs.declared.event.Event.{Event}
-use Rattle.cc_placer.specs.declared.event.Event.TheVariants.{Allocate, Clear, Reallocate}
+use Rattle.cc_heap.specs.declared.event.Event.{Event}
+use Rattle.cc_heap.specs.declared.event.Event.TheVariants.{Allocate, Clear, Reallocate}
 use Rattle.cc_heap.specs.declared.making.Making.{Making}
 use Rattle.cc_heap.specs.declared.outcome.Outcome.{Outcome}
 use Rattle.cc_heap.specs.declared.policy.Policy.{Policy}
 use Rattle.cc_heap.specs.Events.{size_of}
 use Rattle.cc_heap.specs.Heap.{Heap, is_made}
-use Rattle.cc_placer.specs.Ids.{freed_id, made_id}
+use Rattle.cc_heap.specs.Ids.{freed_id, made_id}
 use Rattle.cc_heap.specs.Memory.{usage_of}
 use Rattle.cc_heap.specs.Policy.{is_immediate}
 use Rattle.cc_replay.specs.declared.deeds.Deeds.{Deeds}

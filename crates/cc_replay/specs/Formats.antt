@@ -8,8 +8,8 @@ use Rattle.cc_replay.specs.Mtrace.{mtrace_in}
 use Rattle.cc_replay.specs.declared.report.LineReport.{LineReport}
 use Rattle.cc_replay.specs.declared.report.LineReport.TheVariants.{Nothing, Failure, Allocation, Clearing, Reallocation, From, To}
 use Rattle.cc_replay.specs.declared.report.LineReport.TheVariants as report
-use Rattle.cc_placer.specs.declared.event.Event.{Event}
-use Rattle.cc_placer.specs.declared.event.Event.TheVariants as event
+use Rattle.cc_heap.specs.declared.event.Event.{Event}
+use Rattle.cc_heap.specs.declared.event.Event.TheVariants as event
 use Rattle.cc_replay.specs.declared.formats.Entry.{Entry}
 use Rattle.cc_replay.specs.declared.formats.TraceFormat.{TraceFormat}
 use Rattle.cc_replay.specs.declared.formats.TraceFormat.TheVariants.{Own, Mtrace, Heaptrack, Ltrace}

@@ -1,7 +1,7 @@
 -- The script of a trace: the lines of the operations that its changes are, written while its lines are taken.
 use Rattle.std.specs.Prelude.{◌≡◌, ◌≤◌, ◌⊎◌, ℕ, Bool, true, false, ◌-◌, ◌^◌, ◌&&◌, ◌||◌, nat_lt, is_none, List, [], Option, None}
 use Rattle.std.specs.List.{AllByRecursion}
-use Rattle.cc_placer.specs.declared.event.Event.{Event}
+use Rattle.cc_heap.specs.declared.event.Event.{Event}
 use Rattle.cc_heap.specs.declared.outcome.Outcome.{Outcome}
 use Rattle.cc_heap.specs.declared.settings.Settings.{Settings}
 use Rattle.cc_heap.specs.Events.{IsEvent}

@@ -5,8 +5,8 @@ use Rattle.std.specs.Str.{bytes_eq}
 use Rattle.cc_word.specs.declared.refusal.Refusal.{Refusal}
 use Rattle.cc_word.specs.declared.refusal.Refusal.TheVariants.{Syntax, OutOfRange}
 use Rattle.cc_values.specs.Values.{address_in, both, words_of}
-use Rattle.cc_placer.specs.declared.event.Event.{Event}
-use Rattle.cc_placer.specs.declared.event.Event.TheVariants as event
+use Rattle.cc_heap.specs.declared.event.Event.{Event}
+use Rattle.cc_heap.specs.declared.event.Event.TheVariants as event
 
 -- The number as an alignment: a power of two, or otherwise `OutOfRange`.
 abbrev pub as_alignment : Result ℕ Refusal → Result ℕ Refusal

@@ -5,8 +5,8 @@ ghost use Rattle.cc_replay.specs.Deeds.{as_number, asked_entry, deeds_of, was_ma
 
 use crate::deeds::{Deeds, MadeEntry};
 use cc_bounds::Align;
-use cc_heap::{Making, Outcome};
-use cc_placer::{Event, unit};
+use cc_heap::{Event, Making, Outcome};
+use cc_placer::unit;
 
 /// Returns the deeds of an event with this outcome, in which there was this number of sweeps, and after which the
 /// quarantine is empty or is not.

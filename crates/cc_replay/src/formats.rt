@@ -1,6 +1,6 @@
 //! The event of a line of a trace in each format.
 ghost use Rattle.std.specs.Prelude.{◌≡◌, take, IfOk, IfSome};
-ghost use Rattle.cc_placer.specs.Alignment.{HasAlignment};
+ghost use Rattle.cc_heap.specs.Alignment.{HasAlignment};
 ghost use Rattle.cc_replay.specs.Formats.{
   entry_from,
   entry_in,
@@ -16,7 +16,7 @@ use crate::ltrace::read_ltrace;
 use crate::mtrace::read_mtrace;
 use crate::report::LineReport;
 use crate::trace::read_event;
-use cc_placer::Event;
+use cc_heap::Event;
 use cc_word::Refusal;
 
 /// The format of a trace.

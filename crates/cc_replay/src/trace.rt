@@ -4,7 +4,7 @@ ghost use Rattle.std.specs.Int.{IsPowerOfTwo};
 ghost use Rattle.std.specs.List.{slice_split};
 ghost use Rattle.cc_word.specs.declared.refusal.Refusal.{Refusal as RefusalSpec};
 ghost use Rattle.cc_values.specs.Values.{words_of};
-ghost use Rattle.cc_placer.specs.Alignment.{HasAlignment};
+ghost use Rattle.cc_heap.specs.Alignment.{HasAlignment};
 ghost use Rattle.cc_replay.specs.Trace.{
   alignment_in,
   allocation_in,
@@ -18,7 +18,7 @@ ghost use Rattle.cc_replay.specs.Trace.{
   single_in,
 };
 
-use cc_placer::Event;
+use cc_heap::Event;
 use cc_values::{both, read_address, split_at_first};
 use cc_word::Refusal;
 

@@ -12,7 +12,7 @@ use Rattle.cc_heap.specs.Totals.{capped_sum}
 use Rattle.cc_heap.specs.declared.settings.Settings.{Settings}
 use Rattle.cc_heap.specs.declared.totals.Totals.{Totals}
 use Rattle.cc_heap.specs.declared.usage.Usage.{Usage}
-use Rattle.cc_placer.specs.declared.event.Event.{Event}
+use Rattle.cc_heap.specs.declared.event.Event.{Event}
 use Rattle.cc_word.specs.declared.refusal.Refusal.{Refusal}
 use Rattle.cc_replay.specs.PolicyText.{policy_text}
 use Rattle.cc_replay.specs.Replay.{ReplayState, TakesLine, TakesRest, begun, replaying}

@@ -1,5 +1,5 @@
 use Rattle.std.proofs.Common.{ℕ, IfOk, subst, sym}
-use Rattle.cc_placer.specs.declared.event.Event.{Event}
+use Rattle.cc_heap.specs.declared.event.Event.{Event}
 use Rattle.cc_heap.specs.Events.{AllocatesInHeap, IsEvent}
 use Rattle.cc_heap.proofs.heap.Heap.happen.Goals as goal
 

@@ -1,6 +1,6 @@
 use Rattle.std.proofs.Common.{◌≡◌, ◌∙◌, IfOk, IfSome, None, Ok, Option, Result, Some, ap, false, rules, subst}
-use Rattle.cc_placer.specs.declared.event.Event.{Event}
-use Rattle.cc_placer.specs.Alignment.{HasAlignment}
+use Rattle.cc_heap.specs.declared.event.Event.{Event}
+use Rattle.cc_heap.specs.Alignment.{HasAlignment}
 use Rattle.cc_word.specs.declared.refusal.Refusal.{Refusal}
 use Rattle.cc_replay.specs.Counts.{with_failure}
 use Rattle.cc_replay.specs.Replay.{ReplayState, replaying}

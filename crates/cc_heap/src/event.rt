@@ -1,6 +1,6 @@
 //! The events of a trace.
 ghost use Rattle.std.specs.Prelude.{◌≡◌};
-ghost use Rattle.cc_placer.specs.Ids.{freed_id, made_id};
+ghost use Rattle.cc_heap.specs.Ids.{freed_id, made_id};
 
 /// An event of a trace of an allocator.
 ///

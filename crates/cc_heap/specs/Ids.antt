@@ -1,7 +1,7 @@
 -- The ids of the objects of an event.
 use Rattle.std.specs.Prelude.{ℕ, Option, Some, None}
-use Rattle.cc_placer.specs.declared.event.Event.{Event}
-use Rattle.cc_placer.specs.declared.event.Event.TheVariants.{Allocate, Clear, Reallocate, Free}
+use Rattle.cc_heap.specs.declared.event.Event.{Event}
+use Rattle.cc_heap.specs.declared.event.Event.TheVariants.{Allocate, Clear, Reallocate, Free}
 
 -- The id that an event frees.
 abbrev pub freed_id : Event → Option ℕ
