@@ -15,7 +15,7 @@ use Rattle.cli.specs.Outcome.{ending_of}
 use Rattle.cli.specs.declared.outcome.Ending.TheVariants.{Answered, Stopped}
 use Rattle.cli.specs.declared.fault.Fault.{Fault}
 use Rattle.cli.specs.declared.fault.Fault.TheVariants as fault
-use Rattle.cli_scripts.specs.Runs.{MeetsFrom}
+use Rattle.cli_program.specs.Runs.{MeetsFrom}
 use Rattle.cli_program.specs.Execution.{Script}
 use Rattle.cli_program.specs.Ending.{AnswersScript, Failures, TellsFailures}
 

@@ -12,7 +12,7 @@ ghost use Rattle.cc_machine.specs.Run.{IsReached};
 ghost use Rattle.cc_draw.specs.Usage.{pool_span};
 ghost use Rattle.cc_draw.specs.Drawing.{layout_for};
 ghost use Rattle.cc_laws.specs.DrawnObjects.{CountsFreeBytes, IsDrawnExactly};
-ghost use Rattle.cli_scripts.specs.Report.{IsMachineUsage};
+ghost use Rattle.cli_program.specs.Report.{IsMachineUsage};
 
 /// Proves that, in every state that a run leads to, a byte of the pool is in exactly one hole if
 /// and only if no held object has it. The usage has the number of the holes and the largest, and

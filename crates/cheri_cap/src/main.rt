@@ -5,8 +5,7 @@
 mod memory_with_replay;
 
 use crate::memory_with_replay::MemoryWithReplay;
-use cli_program::run_program;
-use cli_scripts::Terminals;
+use cli_program::{Terminals, run_program};
 use std::io::IsTerminal;
 use std::process::ExitCode;
 

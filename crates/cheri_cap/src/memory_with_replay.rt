@@ -7,9 +7,8 @@ use cc_machine::Machine;
 use cc_values::Usage;
 use clap::Error;
 use cli::{Fault, GlobalMemory, Inputs, Invocation, Memory, ReplayValues};
-use cli_program::ReplaySupport;
+use cli_program::{ReplaySupport, RunMemory};
 use cli_replay::{TraceMemory, replay_file};
-use cli_scripts::RunMemory;
 use std::alloc::{AllocError, Global};
 
 /// The memory of the process, in the program that has `replay`.

@@ -2,8 +2,7 @@
 #![tactic(auto)]
 
 use cli::GlobalMemory;
-use cli_program::run_program;
-use cli_scripts::Terminals;
+use cli_program::{Terminals, run_program};
 use std::io::IsTerminal;
 use std::process::ExitCode;
 

@@ -11,7 +11,7 @@ use Rattle.cli.specs.declared.invocation.Invocation.{Invocation}
 use Rattle.cli.specs.declared.fault.Fault.{Fault}
 use Rattle.cli.specs.Devices.{Console, OnDevices}
 use Rattle.cli.specs.Input.{OpensFile}
-use Rattle.cli_scripts.specs.declared.report.Terminals.{Terminals}
+use Rattle.cli_program.specs.declared.terminals.Terminals.{Terminals}
 use Rattle.cli_program.specs.Execution.{Effect, IsUnasked, ReplayCommand, effect_of, with_values}
 
 -- A claim on the effect of a command, from one on that of an equal one.

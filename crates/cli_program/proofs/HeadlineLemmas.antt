@@ -18,10 +18,10 @@ use Rattle.cc_values.specs.declared.op.Op.{Op}
 use Rattle.cc_bounds.specs.declared.align.Align.{Align}
 use Rattle.cli.specs.declared.outcome.Ending.{Ending}
 use Rattle.cli.specs.declared.fault.Fault.{Fault}
-use Rattle.cli_scripts.specs.Report.{report_of}
-use Rattle.cli_scripts.specs.Runs.{MeetsFrom, StarvesRun}
-use Rattle.cli_scripts.specs.declared.report.Report.{Report}
-use Rattle.cli_scripts.specs.declared.report.Terminals.{Terminals}
+use Rattle.cli_program.specs.Report.{report_of}
+use Rattle.cli_program.specs.Runs.{MeetsFrom, StarvesRun}
+use Rattle.cli_program.specs.declared.report.Report.{Report}
+use Rattle.cli_program.specs.declared.terminals.Terminals.{Terminals}
 use Rattle.cli_program.specs.Ending.{AnswersEveryScript, EndsEffect, Failures}
 use Rattle.cli_program.specs.Execution.{Effect, ReplayCommand, Script, effect_of, pool_script, script_of, script_run, with_values}
 

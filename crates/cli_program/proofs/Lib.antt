@@ -1,3 +1,6 @@
+mod HintLemmas
+mod ReportLemmas
+mod RunLemmas
 mod OutcomeLemmas
 pub mod ExecutionLemmas
 mod HeadlineLemmas

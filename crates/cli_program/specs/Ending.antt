@@ -12,13 +12,13 @@ use Rattle.cli.specs.Outcome.{ending_of}
 use Rattle.cli.specs.declared.input.Content.{Content}
 use Rattle.cli.specs.declared.input.Content.TheVariants as content
 use Rattle.cli.specs.declared.input.InputName.{InputName}
-use Rattle.cli_scripts.specs.Runs.{MeetsFrom}
+use Rattle.cli_program.specs.Runs.{MeetsFrom}
 use Rattle.cli.specs.declared.invocation.Invocation.{Invocation}
 use Rattle.cli.specs.declared.outcome.Ending.{Ending}
 use Rattle.cli.specs.declared.outcome.Ending.TheVariants.{Answered}
 use Rattle.cli.specs.declared.fault.Fault.{Fault}
 use Rattle.cli.specs.declared.fault.Fault.TheVariants as fault
-use Rattle.cli_scripts.specs.declared.report.Terminals.{Terminals}
+use Rattle.cli_program.specs.declared.terminals.Terminals.{Terminals}
 
 -- The devices after the program: whether an input was not opened, a read failed, a write failed, and an allocation failed; whether the
 -- output is flushed; and whether the last input that was requested is this one.

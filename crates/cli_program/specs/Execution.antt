@@ -24,10 +24,10 @@ use Rattle.cli.specs.Input.{AreUnasked, file_input}
 use Rattle.cli_words.specs.DecodeOptions.{options_of, part_of, search_of}
 use Rattle.cli_words.specs.Questions.{has_hint}
 use Rattle.cli_words.specs.Tasks.{AnnotatesWords, AnswersQuestion, ListsCoreFile, ListsInput, RoundsLengths}
-use Rattle.cli_scripts.specs.Report.{report_of}
-use Rattle.cli_scripts.specs.Runs.{DrawsRun, ReportsRun, StarvesRun}
-use Rattle.cli_scripts.specs.declared.report.Report.{Report}
-use Rattle.cli_scripts.specs.declared.report.Terminals.{Terminals}
+use Rattle.cli_program.specs.Report.{report_of}
+use Rattle.cli_program.specs.Runs.{DrawsRun, ReportsRun, StarvesRun}
+use Rattle.cli_program.specs.declared.report.Report.{Report}
+use Rattle.cli_program.specs.declared.terminals.Terminals.{Terminals}
 
 -- An input that is requested, its content, and the file of its tags, if there is one.
 pub record Asked : Type 0 where

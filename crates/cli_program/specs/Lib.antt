@@ -1,4 +1,8 @@
 -- In reading order.
+pub mod Statistics
+pub mod Hints
+pub mod Report
+pub mod Runs
 pub mod Execution
 pub mod Ending
 pub mod Refusals

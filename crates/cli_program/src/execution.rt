@@ -6,10 +6,14 @@ ghost use Rattle.cli.specs.Devices.{IsEnd, OnDevices, console_of};
 ghost use Rattle.cli.specs.Input.{OpensFile};
 ghost use Rattle.cli_program.specs.Execution.{IsUnasked, effect_of};
 
+use crate::maps::map_file;
+use crate::memory::RunMemory;
 use crate::replay_support::ReplaySupport;
+use crate::report::Report;
+use crate::runs::{plan_file, run_file};
+use crate::terminals::Terminals;
 use cc_io::{Sink, Summary};
 use cli::{Fault, Inputs, Invocation};
-use cli_scripts::{Report, RunMemory, Terminals, map_file, plan_file, run_file};
 use cli_words::{annotate_file, ask, decode_core_file, decode_file, round_file};
 
 /// Executes a command: reads its input, writes its output to `sink`, and reports a run on `errors`. If standard error

@@ -13,7 +13,9 @@ ghost use Rattle.cli.specs.Invocation.{IsInvocation, IsProgram, is_taken, kinds_
 ghost use Rattle.cli.specs.Outcome.{EndsOn, status_of};
 
 use crate::execution::execute;
+use crate::memory::RunMemory;
 use crate::replay_support::ReplaySupport;
+use crate::terminals::Terminals;
 use cc_io::{FromWriter, Sink};
 use clap::Error;
 use clap::error::ErrorKind;
@@ -21,7 +23,6 @@ use cli::{
     Ending, ErrorWriter, Fault, Inputs, Invocation, Memory, Noting, ProcessInputs, Reason,
     ending_of, finish, no_input, tell,
 };
-use cli_scripts::{RunMemory, Terminals};
 use std::alloc::AllocError;
 use std::env::{self, Env};
 use std::io;

@@ -6,9 +6,9 @@ use Rattle.cli.specs.declared.fault.Fault.TheVariants as fault
 use Rattle.cli.specs.declared.input.Content.TheVariants as content
 use Rattle.cli.specs.Devices.{FromInput, OnDevices, console_of}
 use Rattle.cli.specs.Input.{OpensFile, file_input}
-use Rattle.cli_scripts.specs.Report.{report_of}
-use Rattle.cli_scripts.specs.Runs.{DrawsRun, PlansFile, ReportsRun, StarvesPlan}
-use Rattle.cli_scripts.specs.declared.report.Report.{Report}
+use Rattle.cli_program.specs.Report.{report_of}
+use Rattle.cli_program.specs.Runs.{DrawsRun, PlansFile, ReportsRun, StarvesPlan}
+use Rattle.cli_program.specs.declared.report.Report.{Report}
 use Rattle.cli_program.specs.Execution.{Effect, IsUnasked, WritesNothing, pool_script, reads, script_run}
 use Rattle.cli_program.proofs.ExecutionLemmas.{asks, does, of_equal, opens, silent, starves, starves_if}
 use Rattle.cli_program.proofs.execution.execute.Goals as goal

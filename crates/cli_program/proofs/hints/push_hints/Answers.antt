@@ -1,0 +1,6 @@
+use Rattle.std.proofs.Common.{append_assoc}
+use Rattle.cli_program.proofs.hints.push_hints.Goals as goal
+
+pub returns : goal.returns
+returns c =
+    rw (c.push_line_hint-3.ensures.value, c.push_line_hint-2.ensures.value, c.push_line_hint.ensures.value, c.push_pool_hint.ensures.value, c.requires) (simp append_assoc)

@@ -1,3 +1,0 @@
-mod HintLemmas
-mod ReportLemmas
-mod RunLemmas

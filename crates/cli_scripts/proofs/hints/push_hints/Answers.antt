@@ -1,6 +1,0 @@
-use Rattle.std.proofs.Common.{append_assoc}
-use Rattle.cli_scripts.proofs.hints.push_hints.Goals as goal
-
-pub returns : goal.returns
-returns c =
-    rw (c.push_line_hint-3.ensures.value, c.push_line_hint-2.ensures.value, c.push_line_hint.ensures.value, c.push_pool_hint.ensures.value, c.requires) (simp append_assoc)

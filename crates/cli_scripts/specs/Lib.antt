@@ -1,5 +1,0 @@
--- In reading order.
-pub mod Statistics
-pub mod Hints
-pub mod Report
-pub mod Runs
