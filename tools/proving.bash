@@ -256,24 +256,30 @@ is_ready() {
 }
 
 # Begins the proofs for which there are slots, first of the crates with the longest chain above. If fewer crates are ready than there
-# are slots, they have several jobs each. Of more than two slots, the crate that begins last takes two even if one is free: the proofs
-# next to it end before it, and then only the program is left.
+# are slots, they share these, the first of them with the larger share; but a crate with a shorter chain than one that still waits has
+# one job, since a job more costs CPU time. Of more than two slots, the crate that begins last takes two even if one is free: the
+# proofs next to it end before it, and then only the program is left.
 begin_ready() {
-  local name ready=() later=() free=$slots jobs
+  local name ready=() later=() free=$slots jobs longest=0 waits=''
   for name in "${!running[@]}"; do free=$((free - jobs_of[$name])); done
   # a crate comes after those that it needs, so one that is above a library taken here is seen
   for name in "${left[@]}"; do
-    if is_ready "$name"; then
-      if take_kept "$name"; then count "$name" 'kept from an earlier proof'; else ready+=("$name"); fi
+    if ! is_ready "$name"; then
+      waits=yes
+    elif take_kept "$name"; then
+      count "$name" 'kept from an earlier proof'
+    else
+      ready+=("$name")
+      [[ -n $waits ]] || longest=${#ready[@]}
     fi
   done
   while ((${#ready[@]} && free > 0)); do
-    name=${ready[0]} jobs=$((free / ${#ready[@]}))
-    ((jobs > 0)) || jobs=1
+    name=${ready[0]} jobs=1
+    ((longest <= 0)) || jobs=$(((free + ${#ready[@]} - 1) / ${#ready[@]}))
     ((jobs <= MOST_JOBS)) || jobs=$MOST_JOBS
     ((${#left[@]} > 1 || jobs > 1 || slots <= 2)) || jobs=2
     begin prove_crate "$name" "$jobs"
-    running[$name]=$! jobs_of[$name]=$jobs free=$((free - jobs)) ready=("${ready[@]:1}")
+    running[$name]=$! jobs_of[$name]=$jobs free=$((free - jobs)) longest=$((longest - 1)) ready=("${ready[@]:1}")
   done
   for name in "${left[@]}"; do [[ -n ${given[$name]-}${running[$name]-} ]] || later+=("$name"); done
   left=("${later[@]}")
