@@ -10,19 +10,19 @@ use Rattle.clap.specs.declared.error.Error.{Error}
 use Rattle.clap.specs.declared.error.kind.ErrorKind.{ErrorKind}
 use Rattle.clap.specs.declared.error.kind.ErrorKind.TheVariants.{OutOfMemory}
 use Rattle.cc_values.specs.Values.{address_in, permissions_in}
-use Rattle.cli.specs.Invocation.{choice_fault, choice_fault_in, faults_of, is_taken, kinds_in, has_other_input, is_on, is_read, list_fault, search_fault, search_fault_of, value_fault}
+use Rattle.cli.specs.Invocation.{choice_mistake, choice_mistake_in, faults_of, is_taken, kinds_in, has_other_input, is_on, is_read, list_mistake, search_mistake, search_mistake_of, value_mistake}
 
 -- ---- the values of `explain`
 
 -- WORD excludes the options of a length.
-pub word_alone : (size base : Option Text) (svg is_address : Bool) → choice_fault true (is_some size) (is_some base) svg is_address ≡ None
+pub word_alone : (size base : Option Text) (svg is_address : Bool) → choice_mistake true (is_some size) (is_some base) svg is_address ≡ None
     → (size ≡ None) × (base ≡ None)
 word_alone None None svg is_address e = (refl, refl)
 word_alone None (Some text) svg is_address e = cc e
 word_alone (Some text) base svg is_address e = cc e
 
 -- Without WORD, `--length` is required, and excludes `--svg`; the base is an address.
-pub length_wanted : (size base : Option Text) (svg is_address : Bool) → choice_fault false (is_some size) (is_some base) svg is_address ≡ None
+pub length_wanted : (size base : Option Text) (svg is_address : Bool) → choice_mistake false (is_some size) (is_some base) svg is_address ≡ None
     → ((text : Text) × (size ≡ Some text)) × (svg ≡ false) × (is_address ≡ true)
 length_wanted None base svg is_address e = cc e
 length_wanted (Some text) base true is_address e = cc e
@@ -30,13 +30,13 @@ length_wanted (Some text) base false false e = cc e
 length_wanted (Some text) base false true e = ((text, refl), refl, refl)
 
 -- `--list` excludes N, and the base is an address.
-pub list_alone : (size : Option Text) (is_address : Bool) → list_fault true (is_some size) is_address ≡ None → (size ≡ None) × (is_address ≡ true)
+pub list_alone : (size : Option Text) (is_address : Bool) → list_mistake true (is_some size) is_address ≡ None → (size ≡ None) × (is_address ≡ true)
 list_alone None true e = (refl, refl)
 list_alone None false e = cc e
 list_alone (Some text) is_address e = cc e
 
 -- Without `--list`, N is required, and the base is an address.
-pub size_wanted : (size : Option Text) (is_address : Bool) → list_fault false (is_some size) is_address ≡ None
+pub size_wanted : (size : Option Text) (is_address : Bool) → list_mistake false (is_some size) is_address ≡ None
     → ((text : Text) × (size ≡ Some text)) × (is_address ≡ true)
 size_wanted None is_address e = cc e
 size_wanted (Some text) false e = cc e
@@ -44,7 +44,7 @@ size_wanted (Some text) true e = ((text, refl), refl)
 
 -- ---- the values of `decode`
 
-read_all : (skip count at holds perms : Bool) → value_fault (skip && (count && (at && (holds && perms)))) ≡ None
+read_all : (skip count at holds perms : Bool) → value_mistake (skip && (count && (at && (holds && perms)))) ≡ None
     → (skip ≡ true) × (count ≡ true) × (at ≡ true) × (holds ≡ true) × (perms ≡ true)
 read_all true true true true true e = (refl, refl, refl, refl, refl)
 read_all true true true true false e = cc e
@@ -54,7 +54,7 @@ read_all true false at holds perms e = cc e
 read_all false count at holds perms e = cc e
 
 -- Values that have no error are all read.
-all_read : (elf raw has_tags has_bytes skip count at holds perms : Bool) → search_fault elf raw has_tags has_bytes (skip && (count && (at && (holds && perms)))) ≡ None
+all_read : (elf raw has_tags has_bytes skip count at holds perms : Bool) → search_mistake elf raw has_tags has_bytes (skip && (count && (at && (holds && perms)))) ≡ None
     → (skip ≡ true) × (count ≡ true) × (at ≡ true) × (holds ≡ true) × (perms ≡ true)
 all_read true true has_tags has_bytes skip count at holds perms e = cc e
 all_read true false true false skip count at holds perms e = cc e
@@ -65,7 +65,7 @@ all_read false raw true true skip count at holds perms e = read_all skip count a
 all_read false raw false has_bytes skip count at holds perms e = read_all skip count at holds perms e
 
 -- Values of `decode` that have no error are all read.
-pub reads : (rows : List Row) → search_fault_of rows ≡ None
+pub reads : (rows : List Row) → search_mistake_of rows ≡ None
     → (is_read address_in (first_of (codes "skip") rows) ≡ true) × (is_read address_in (first_of (codes "count") rows) ≡ true)
     × (is_read address_in (first_of (codes "at") rows) ≡ true) × (is_read address_in (first_of (codes "holds") rows) ≡ true)
     × (is_read permissions_in (first_of (codes "perms") rows) ≡ true)
@@ -91,10 +91,10 @@ none_given (Some kind) e = cc e
 
 -- Arguments that are accepted are accepted by clap, and their values have no error.
 pub taken_parts : (app : App) (words : List Text) → is_taken app words ≡ true
-    → (takes app words ≡ true) × (choice_fault_in (subcommand_of app words) ≡ None)
+    → (takes app words ≡ true) × (choice_mistake_in (subcommand_of app words) ≡ None)
 taken_parts app words taken =
-    let parts = both_true (takes app words) (not (is_some (choice_fault_in (subcommand_of app words)))) taken in
-    (parts.0, none_given (choice_fault_in (subcommand_of app words)) parts.1)
+    let parts = both_true (takes app words) (not (is_some (choice_mistake_in (subcommand_of app words)))) taken in
+    (parts.0, none_given (choice_mistake_in (subcommand_of app words)) parts.1)
 
 first_kind : (first second : Kinds) (e : Error) → HasKind first e → HasKind (or_else first second) e
 first_kind [] second e (inl memory) = inl memory
@@ -103,13 +103,13 @@ first_kind (k ∷ ks) second e has = has
 
 -- An error of clap's is one of the program's.
 pub clap_fails : (app : App) (words : List Text) (e : Error) → HasKind (fault_of app words) e → HasKind (faults_of app words) e
-clap_fails app words e has = first_kind (fault_of app words) (kinds_in (choice_fault_in (subcommand_of app words))) e has
+clap_fails app words e has = first_kind (fault_of app words) (kinds_in (choice_mistake_in (subcommand_of app words))) e has
 
 -- If clap has no error, the values of `explain` decide.
 pub choice_fails : {T : Type 0} (app : App) (words : List Text) (r : Result T Error) → fault_of app words ≡ []
-    → FailsBy (kinds_in (choice_fault_in (subcommand_of app words))) r → FailsBy (faults_of app words) r
+    → FailsBy (kinds_in (choice_mistake_in (subcommand_of app words))) r → FailsBy (faults_of app words) r
 choice_fails app words r faultless told =
-    subst (λ (kinds : Kinds). FailsBy (or_else kinds (kinds_in (choice_fault_in (subcommand_of app words)))) r) (sym faultless) told
+    subst (λ (kinds : Kinds). FailsBy (or_else kinds (kinds_in (choice_mistake_in (subcommand_of app words)))) r) (sym faultless) told
 
 -- If the values of `explain` have no error, an error means that memory ran out.
 pub choice_refuses : {T : Type 0} (choice : Option ErrorKind) (r : Result T Error) (Q : Error → Type 0) → FailsBy (kinds_in choice) r

@@ -27,7 +27,7 @@ use Rattle.cc_io.specs.declared.input_form.InputForm.TheVariants.{Bytes, Lines}
 use Rattle.cc_io.specs.declared.format.Format.{Format}
 use Rattle.cc_io.specs.declared.format.Format.TheVariants.{Columns}
 use Rattle.cc_io.specs.declared.format.Format.TheVariants as format
-use Rattle.cli.specs.Invocation.{HasChoice, HasItsTexts, HasLimit, IsChosen, IsLimit, IsLimitText, choice_fault_in, align_named, decimal_value, format_named, format_names, program}
+use Rattle.cli.specs.Invocation.{HasChoice, HasItsTexts, HasLimit, IsChosen, IsLimit, IsLimitText, choice_mistake_in, align_named, decimal_value, format_named, format_names, program}
 use Rattle.cli.specs.Invocation.{slots_option, choice_option, input_named, order_names, summary_named, summary_names}
 use Rattle.cli.specs.declared.invocation.SummaryFormat.{SummaryFormat}
 use Rattle.cli.specs.declared.invocation.SummaryFormat.TheVariants as summary
@@ -398,7 +398,7 @@ module _ (aligns : Bor (List (Bor Text))) (are : texts aligns.now ≡ codes "1" 
 
   -- `Serves` holds if the command has the values that it needs whenever its arguments have no error.
   abbrev Serves : Shape → Type 0
-  Serves s = (words : List Text) → level_fault s [] nothing_held words false [] ≡ [] → choice_fault_in (Some (rows_at s words)) ≡ None
+  Serves s = (words : List Text) → level_fault s [] nothing_held words false [] ≡ [] → choice_mistake_in (Some (rows_at s words)) ≡ None
       → HasItsTexts (Some (rows_at s words))
 
   show_serves : Serves show
@@ -489,17 +489,17 @@ module _ (aligns : Bor (List (Bor Text))) (are : texts aligns.now ≡ codes "1" 
   by_name : (is_named : Shape → Bool) (commands : List Shape) (words : List Text) (rows : List Row) → AllServe commands
       → option_map_or (λ s. level_fault s [] nothing_held words false []) (find is_named commands) [] ≡ []
       → check_fault (built (program aligns formats orders summaries)).top rows (is_some (option_map (λ s. rows_at s words) (find is_named commands))) ≡ []
-      → choice_fault_in (option_map (λ s. rows_at s words) (find is_named commands)) ≡ None
+      → choice_mistake_in (option_map (λ s. rows_at s words) (find is_named commands)) ≡ None
       → HasItsTexts (option_map (λ s. rows_at s words) (find is_named commands))
   by_name is_named [] words rows all below e choice = absurd (wanted rows e)
   by_name is_named (s ∷ rest) words rows all below e choice = go (is_named s) below e choice (by_name is_named rest words rows all.1)
     where
       go : (b : Bool) → option_map_or (λ s. level_fault s [] nothing_held words false []) (if b then Some s else find is_named rest) [] ≡ []
           → check_fault (built (program aligns formats orders summaries)).top rows (is_some (option_map (λ s. rows_at s words) (if b then Some s else find is_named rest))) ≡ []
-          → choice_fault_in (option_map (λ s. rows_at s words) (if b then Some s else find is_named rest)) ≡ None
+          → choice_mistake_in (option_map (λ s. rows_at s words) (if b then Some s else find is_named rest)) ≡ None
           → (option_map_or (λ s. level_fault s [] nothing_held words false []) (find is_named rest) [] ≡ []
           → check_fault (built (program aligns formats orders summaries)).top rows (is_some (option_map (λ s. rows_at s words) (find is_named rest))) ≡ []
-          → choice_fault_in (option_map (λ s. rows_at s words) (find is_named rest)) ≡ None
+          → choice_mistake_in (option_map (λ s. rows_at s words) (find is_named rest)) ≡ None
           → HasItsTexts (option_map (λ s. rows_at s words) (find is_named rest)))
           → HasItsTexts (option_map (λ s. rows_at s words) (if b then Some s else find is_named rest))
       go true below e choice later = all.0 words below choice
@@ -507,12 +507,12 @@ module _ (aligns : Bor (List (Bor Text))) (are : texts aligns.now ≡ codes "1" 
 
   by_stop : (stop : Option (Text × List Text)) (rows : List Row) → entered_fault (built (program aligns formats orders summaries)) stop ≡ []
       → check_fault (built (program aligns formats orders summaries)).top rows (is_some (entered (built (program aligns formats orders summaries)) stop)) ≡ []
-      → choice_fault_in (entered (built (program aligns formats orders summaries)) stop) ≡ None → HasItsTexts (entered (built (program aligns formats orders summaries)) stop)
+      → choice_mistake_in (entered (built (program aligns formats orders summaries)) stop) ≡ None → HasItsTexts (entered (built (program aligns formats orders summaries)) stop)
   by_stop None rows below e choice = absurd (wanted rows e)
   by_stop (Some p) rows below e choice = by_name (λ s. answers_to p.0 (label_of s)) (built (program aligns formats orders summaries)).subs p.1 rows all_serve below e choice
 
   -- Arguments without an error name a command and give it its texts, if they are a choice.
-  pub found : (words : List Text) → fault_of (program aligns formats orders summaries) words ≡ [] → choice_fault_in (subcommand_of (program aligns formats orders summaries) words) ≡ None
+  pub found : (words : List Text) → fault_of (program aligns formats orders summaries) words ≡ [] → choice_mistake_in (subcommand_of (program aligns formats orders summaries) words) ≡ None
       → HasItsTexts (subcommand_of (program aligns formats orders summaries) words)
   found words e choice =
       let app = built (program aligns formats orders summaries) in

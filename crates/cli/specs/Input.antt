@@ -4,7 +4,7 @@ use Rattle.std.specs.Borrow.{Bor}
 use Rattle.std.specs.Str.{bytes_eq}
 use Rattle.clap.specs.Words.{Text}
 use Rattle.cli.specs.declared.input.Content.{Content}
-use Rattle.cli.specs.declared.input.Content.TheVariants.{Trace, Changes}
+use Rattle.cli.specs.declared.input.Content.TheVariants.{Trace, TraceForScript}
 use Rattle.cli.specs.declared.input.InputName.{InputName}
 use Rattle.cli.specs.declared.input.InputName.TheVariants.{Standard, File}
 use Rattle.cli.specs.declared.invocation.ReplayOutput.{ReplayOutput}
@@ -32,5 +32,5 @@ AreUnasked (Some path) input content last_asked = (last_asked input content ≡ 
 
 -- The content of the trace of `replay`, by its output.
 abbrev pub trace_content : Option ReplayOutput → Content
-trace_content (Some Script) = Changes
+trace_content (Some Script) = TraceForScript
 trace_content _ = Trace

@@ -233,71 +233,71 @@ IsInvocation found invocation = (rows : List Row) × (found ≡ Some (command_na
 -- permissions
 
 -- The kind of error of a value, if it is not of its form.
-abbrev pub value_fault : (is_read : Bool) → Option ErrorKind
-value_fault is_read = if is_read then None else Some ValueValidation
+abbrev pub value_mistake : (is_read : Bool) → Option ErrorKind
+value_mistake is_read = if is_read then None else Some ValueValidation
 
 -- The kind of error of the given values, if there is one: WORD excludes `--length` and `--base`, one of WORD and
 -- `--length` is required, `--length` excludes `--svg`, and the base is an address.
-abbrev pub choice_fault : (has_word has_length has_base has_svg is_address : Bool) → Option ErrorKind
-choice_fault has_word has_length has_base has_svg is_address =
+abbrev pub choice_mistake : (has_word has_length has_base has_svg is_address : Bool) → Option ErrorKind
+choice_mistake has_word has_length has_base has_svg is_address =
     if has_word then (if has_length || has_base then Some ArgumentConflict else None)
     else if not has_length then Some MissingRequiredArgument
-    else if has_svg then Some ArgumentConflict else value_fault is_address
+    else if has_svg then Some ArgumentConflict else value_mistake is_address
 
 -- The kind of error of the values of `explain` in these rows, if there is one.
-abbrev pub choice_fault_of : List Row → Option ErrorKind
-choice_fault_of rows =
-    choice_fault (is_some (first_of (codes "word") rows)) (is_some (first_of (codes "length") rows)) (is_some (first_of (codes "base") rows))
+abbrev pub choice_mistake_of : List Row → Option ErrorKind
+choice_mistake_of rows =
+    choice_mistake (is_some (first_of (codes "word") rows)) (is_some (first_of (codes "length") rows)) (is_some (first_of (codes "base") rows))
     (is_on (first_of (codes "svg") rows)) (is_read address_in (first_of (codes "base") rows))
 
 -- The kind of error of the given values, if there is one: one of N and `--list` is required, each excludes the other, and the base is an
 -- address.
-abbrev pub list_fault : (has_list has_length is_address : Bool) → Option ErrorKind
-list_fault has_list has_length is_address =
+abbrev pub list_mistake : (has_list has_length is_address : Bool) → Option ErrorKind
+list_mistake has_list has_length is_address =
     if has_list && has_length then Some ArgumentConflict
-    else if has_list || has_length then value_fault is_address else Some MissingRequiredArgument
+    else if has_list || has_length then value_mistake is_address else Some MissingRequiredArgument
 
 -- The kind of error of the values of `round` in these rows, if there is one.
-abbrev pub list_fault_of : List Row → Option ErrorKind
-list_fault_of rows =
-    list_fault (is_some (first_of (codes "list") rows)) (is_some (first_of (codes "length") rows)) (is_read address_in (first_of (codes "base") rows))
+abbrev pub list_mistake_of : List Row → Option ErrorKind
+list_mistake_of rows =
+    list_mistake (is_some (first_of (codes "list") rows)) (is_some (first_of (codes "length") rows)) (is_read address_in (first_of (codes "base") rows))
 
 -- The kind of error of the given values, if there is one: `--elf` excludes the options of other inputs, `--tags` requires `--bytes`, and the
 -- others are read.
-abbrev pub search_fault : (has_elf has_other has_tags has_bytes is_read : Bool) → Option ErrorKind
-search_fault has_elf has_other has_tags has_bytes is_read =
-    if has_elf && has_other then Some ArgumentConflict else if has_tags && not has_bytes then Some MissingRequiredArgument else value_fault is_read
+abbrev pub search_mistake : (has_elf has_other has_tags has_bytes is_read : Bool) → Option ErrorKind
+search_mistake has_elf has_other has_tags has_bytes is_read =
+    if has_elf && has_other then Some ArgumentConflict else if has_tags && not has_bytes then Some MissingRequiredArgument else value_mistake is_read
 
 -- The kind of error of the values of `decode` in these rows, if there is one.
-abbrev pub search_fault_of : List Row → Option ErrorKind
-search_fault_of rows = search_fault (is_on (first_of (codes "elf") rows)) (has_other_input rows) (is_some (first_of (codes "tags") rows)) (is_some (first_of (codes "bytes") rows))
+abbrev pub search_mistake_of : List Row → Option ErrorKind
+search_mistake_of rows = search_mistake (is_on (first_of (codes "elf") rows)) (has_other_input rows) (is_some (first_of (codes "tags") rows)) (is_some (first_of (codes "bytes") rows))
     (is_read address_in (first_of (codes "skip") rows) && (is_read address_in (first_of (codes "count") rows)
     && (is_read address_in (first_of (codes "at") rows)
     && (is_read address_in (first_of (codes "holds") rows) && is_read permissions_in (first_of (codes "perms") rows)))))
 
 -- The kind of error of the values of `show` in these rows, if there is one: `--line` excludes `--format`.
-abbrev pub show_fault_of : List Row → Option ErrorKind
-show_fault_of rows =
+abbrev pub show_mistake_of : List Row → Option ErrorKind
+show_mistake_of rows =
     if is_on (first_of (codes "line") rows) && is_some (first_of (codes "format") rows) then Some ArgumentConflict else None
 
 -- The kind of error of these values of the command of this name, if there is one: only `explain`, `round`, `decode` and `show` have
 -- one.
-abbrev pub named_fault : (name : Text) → List Row → Option ErrorKind
-named_fault name rows =
-    if bytes_eq name (codes "explain") then choice_fault_of rows
-    else if bytes_eq name (codes "round") then list_fault_of rows
-    else if bytes_eq name (codes "decode") then search_fault_of rows
-    else if bytes_eq name (codes "show") then show_fault_of rows
+abbrev pub named_mistake : (name : Text) → List Row → Option ErrorKind
+named_mistake name rows =
+    if bytes_eq name (codes "explain") then choice_mistake_of rows
+    else if bytes_eq name (codes "round") then list_mistake_of rows
+    else if bytes_eq name (codes "decode") then search_mistake_of rows
+    else if bytes_eq name (codes "show") then show_mistake_of rows
     else None
 
 -- The kind of error of the values of the command that clap found, if there is one.
-abbrev pub choice_fault_in : Option (Text × List Row) → Option ErrorKind
-choice_fault_in None = None
-choice_fault_in (Some found) = named_fault found.0 found.1
+abbrev pub choice_mistake_in : Option (Text × List Row) → Option ErrorKind
+choice_mistake_in None = None
+choice_mistake_in (Some found) = named_mistake found.0 found.1
 
 -- Whether the arguments are accepted: clap accepts them, and their values have no error.
 abbrev pub is_taken : App → List Text → Bool
-is_taken app words = takes app words && not (is_some (choice_fault_in (subcommand_of app words)))
+is_taken app words = takes app words && not (is_some (choice_mistake_in (subcommand_of app words)))
 
 -- The list of the kind of an error, if there is one.
 abbrev pub kinds_in : Option ErrorKind → Kinds
@@ -306,7 +306,7 @@ kinds_in (Some kind) = kind ∷ []
 
 -- The kinds of error that the arguments can give: clap's, or that of the values if clap has none.
 abbrev pub faults_of : App → List Text → Kinds
-faults_of app words = or_else (fault_of app words) (kinds_in (choice_fault_in (subcommand_of app words)))
+faults_of app words = or_else (fault_of app words) (kinds_in (choice_mistake_in (subcommand_of app words)))
 
 -- ---- the values that a command needs
 
@@ -337,14 +337,14 @@ HasChoice named name rows = IfSome (first_of name rows) (λ text. IsSome (named 
 abbrev pub HasWanted : Text → List Row → Type 0
 HasWanted name rows =
     cond (bytes_eq name (codes "show")) (HasText (codes "word") rows × HasChoice format_named (codes "format") rows)
-    (cond (bytes_eq name (codes "round")) (list_fault_of rows ≡ None)
+    (cond (bytes_eq name (codes "round")) (list_mistake_of rows ≡ None)
     (cond (bytes_eq name (codes "run")) (HasLimit rows)
     (cond (bytes_eq name (codes "plan")) (HasPoolTexts rows × HasLimit rows × HasChoice align_named (codes "align") rows)
     (cond (bytes_eq name (codes "map")) (HasPoolTexts rows × HasLimit rows × HasChoice align_named (codes "align") rows)
     (cond (bytes_eq name (codes "replay")) (HasChoice align_named (codes "align") rows × HasChoice summary_named (codes "summary") rows)
-    (cond (bytes_eq name (codes "decode")) (HasChoice format_named (codes "format") rows × HasChoice input_named (codes "bytes") rows × (search_fault_of rows ≡ None))
+    (cond (bytes_eq name (codes "decode")) (HasChoice format_named (codes "format") rows × HasChoice input_named (codes "bytes") rows × (search_mistake_of rows ≡ None))
     (cond (bytes_eq name (codes "annotate")) ⊤
-    (cond (bytes_eq name (codes "explain")) (choice_fault_of rows ≡ None) ⊥))))))))
+    (cond (bytes_eq name (codes "explain")) (choice_mistake_of rows ≡ None) ⊥))))))))
 
 -- `HasItsTexts` holds if clap found a command of the program, with the values that it needs.
 abbrev pub HasItsTexts : Option (Text × List Row) → Type 0

@@ -5,16 +5,17 @@ ghost use Rattle.clap.specs.declared.builder.command.Command.TheViews.{out-Comma
 ghost use Rattle.cli.specs.Usage.{bare_program, command_of, program};
 
 use crate::arguments::argument;
-use crate::help::{ABOUT, AFTER_HELP, Page, VERSION, about, after_help, usage};
+use crate::help::{ABOUT, AFTER_HELP, HelpPage, VERSION, about, after_help, usage};
 use crate::table::{Choices, CommandRow, commands};
 use clap::Command;
 use std::alloc::{AllocError, Global};
 
 /// Returns the program with all its commands. `--align`, `--format`, `--bytes` and `--summary`
-/// accept the strings of `aligns`, `formats`, `orders` and `summaries`.
+/// accept the strings of `aligns`, `formats`, `orders` and `summaries`, which are parameters, so that the contract can
+/// name them.
 ///
 /// Errors: `AllocError` if an allocation fails.
-pub fn program<'a>(
+pub(crate) fn program<'a>(
     alloc: Global,
     aligns: &'a [&'a str],
     formats: &'a [&'a str],
@@ -69,7 +70,7 @@ fn bare_program<'a>(alloc: Global) -> Result<Command<'a>, AllocError>
 }
 
 /// Returns a command before its arguments are added.
-fn bare_command<'a>(alloc: Global, name: &'a str, page: Page) -> Command<'a>
+fn bare_command<'a>(alloc: Global, name: &'a str, page: HelpPage) -> Command<'a>
     ensures shape { app_of result ≡ new_app name.now }
     ensures local { (out-Command result).has_globals ≡ false }
 {

@@ -101,7 +101,7 @@ pub(crate) enum Topic {
 
 /// The command of a help text.
 #[derive(Clone, Copy)]
-pub(crate) enum Page {
+pub(crate) enum HelpPage {
     /// The command `show`.
     Show,
     /// The command `round`.
@@ -210,37 +210,37 @@ alignment and this pool, if its bounds are exact, places each object at the same
 }
 
 /// Returns the summary of a command.
-pub(crate) fn about<'a>(page: Page) -> &'a str {
+pub(crate) fn about<'a>(page: HelpPage) -> &'a str {
     match page {
-        Page::Show => "Shows the fields of a capability word, one on each line",
-        Page::Round => "Shows the size and alignment to reserve for an allocation of N bytes",
-        Page::Run => "Runs a script on a new machine, and prints a reply for each of its lines",
-        Page::Plan =>
+        HelpPage::Show => "Shows the fields of a capability word, one on each line",
+        HelpPage::Round => "Shows the size and alignment to reserve for an allocation of N bytes",
+        HelpPage::Run => "Runs a script on a new machine, and prints a reply for each of its lines",
+        HelpPage::Plan =>
             "Runs a script on a machine whose pool of memory is the LENGTH bytes from BASE",
-        Page::Map =>
+        HelpPage::Map =>
             "Runs a script on a machine with a pool, as plan does, and prints a map of the pool at its end",
-        Page::Decode => "Decodes words, one on each line",
-        Page::Annotate =>
+        HelpPage::Decode => "Decodes words, one on each line",
+        HelpPage::Annotate =>
             "Copies text, and inserts the one-line form of each capability word after it",
-        Page::Replay =>
+        HelpPage::Replay =>
             "Replays the trace of an allocator on a heap with exact bounds, and prints the heap's numbers",
-        Page::Explain =>
+        HelpPage::Explain =>
             "Explains how a capability word is decoded, step by step, or which bounds a request is granted",
     }
 }
 
 /// Returns the usage of a command, if it is not the one that follows from its arguments.
-pub(crate) fn usage<'a>(page: Page) -> Option<&'a str> {
+pub(crate) fn usage<'a>(page: HelpPage) -> Option<&'a str> {
     match page {
-        Page::Explain => Some(EXPLAIN_USAGE),
+        HelpPage::Explain => Some(EXPLAIN_USAGE),
         _ => None,
     }
 }
 
 /// Returns the help text after a command's arguments.
-pub(crate) fn after_help<'a>(page: Page) -> &'a str {
+pub(crate) fn after_help<'a>(page: HelpPage) -> &'a str {
     match page {
-        Page::Show => "\
+        HelpPage::Show => "\
 The word is in its memory form, in which the null capability is all zeros. Any 32 digits are a word,
 without 0x before them; with --line or --format, they may have it. For any other input, prints
 `error 1 syntax`, in json as an object, with exit status 1. With --format, prints what
@@ -255,7 +255,7 @@ Example:
 
   cheri-cap show --format json 02001fffc48190040000000000001000
   {\"word\":\"02001fffc48190040000000000001000\",\"perms\":\"0200\",\"names\":[\"UNSEAL\"],\"reserved\":0,\"flag\":0,\"type\":\"00007\",\"address\":\"0x1000\",\"exponent\":0,\"base\":\"0x1000\",\"top\":\"0x1200\",\"canonical\":true}",
-        Page::Round => "\
+        HelpPage::Round => "\
 The output is one line, `round LENGTH GRANULE MASK`, with each number in hexadecimal:
   LENGTH   the number of bytes to reserve: N rounded up for exact bounds
   GRANULE  their alignment: they begin at an address that is a multiple of this
@@ -281,7 +281,7 @@ Examples:
   printf '8191\\n5000\\n' | cheri-cap round --list -
   round 0x2000 0x10 0xfffffffffffffff0
   round 0x1388 0x8 0xfffffffffffffff8",
-        Page::Run => "\
+        HelpPage::Run => "\
 Slot 0 of the machine holds the capability for the whole address space. Each command that derives
 a capability puts it into the next slot:
   addr S V, inc S V            another address, or V more
@@ -307,7 +307,7 @@ Example:
   printf 'addr 0 0x1000\\nbounds 1 512\\n' | cheri-cap run
   slot 1 ffff0000000000000000000000001000 0x0 0x10000000000000000
   slot 2 ffff0000048190040000000000001000 0x1000 0x1200",
-        Page::Plan => "\
+        HelpPage::Plan => "\
 The machine is set up by `addr 0 BASE`, `exact 1 LENGTH` and `pool 2` (or `pool 2 16`), whose three
 replies come first. They are errors if no capability has exactly these bounds, and the machine then
 has no pool; `cheri-cap round LENGTH` shows a length and an alignment that are exact. The script
@@ -325,7 +325,7 @@ Example:
   object 1 slot 3 ffff0000041880040000000000010000 0x10000 0x10064 held 100
   freed 1 revoked 0 held 100
   swept 1 revoked 1 held 0",
-        Page::Map => "\
+        HelpPage::Map => "\
 Prints no replies, but: the size of a cell; up to 16 rows of 64 cells that cover the pool, each row
 after the address of its first cell; and the summary of `cheri-cap plan --stats`. A cell is `#` if
 some of its bytes are live, `~` if some are freed and not swept yet, `*` if there are both, and `.`
@@ -344,7 +344,7 @@ Examples:
 
   echo alloc 20 | cheri-cap map --svg 0x1000 64 | grep object
   <rect x='0' y='0' width='320' height='24'><title>object 1: 0x1000-0x1014</title></rect>",
-        Page::Decode => "\
+        HelpPage::Decode => "\
 Each line is a word: 32 hexadecimal digits of either case, with or without 0x in front of them. With
 --bytes each 16 bytes are a word, as memory holds them: `little` for the order of CHERI-RISC-V.
 Prints a line for each word, in order:
@@ -399,7 +399,7 @@ Examples:
 
   printf 'no word\\n\\0\\0\\0\\0\\0\\0\\0\\0\\0\\0\\0\\0\\0\\0\\0\\0p\\0\\1\\0\\0\\0\\0\\0=\\200\\17\\0\\0\\0\\377\\377' | cheri-cap decode --bytes little --skip 8 --at 0x4000 --holds 0x10100
   0x4010 ffff0000000f803d0000000000010070 0x10070 0x12070 ffff 0 3ffff 1 yes",
-        Page::Annotate => "\
+        HelpPage::Annotate => "\
 Prints the input, byte for byte, and after each word in it a space and the word's one-line form, like
 `cheri-cap show --line`. A word is 32 hexadecimal digits of either case, or two halves of 16 digits
 with `_` or `:` between, with or without 0x before. Digits next to a letter, another digit or an
@@ -412,7 +412,7 @@ output failed.
 Example:
   echo 'csp=0xffff0000000f803d0000000000010070 ok' | cheri-cap annotate
   csp=0xffff0000000f803d0000000000010070 0x10070 [rwxRW,0x10070-0x12070] ok",
-        Page::Replay => "\
+        HelpPage::Replay => "\
 Each line of the trace is an event:
   a ID SIZE [ALIGN]  allocates an object, like malloc and aligned_alloc
   c ID SIZE          allocates an object, like calloc
@@ -455,7 +455,7 @@ Example:
   line,event,time,made.asked,objects,asked,live,quarantine,held,peak.quarantine,peak.held,high,sweeps,why
   2,2,0,8291,2,8291,8292,0,8292,0,8292,8304,0,each
   3,3,0,8291,1,8191,8192,100,8292,100,8292,8304,0,end",
-        Page::Explain => "\
+        HelpPage::Explain => "\
 For a WORD, prints its fields, its exponent, granule and mantissas, its window, its base and top, and
 whether it is canonical, and if not the reason. At every address in the window, a canonical word has
 the same bounds. A picture of the window follows: 64 cells, eight for each of its eight sections. `#`

@@ -28,8 +28,8 @@ pub enum Content {
     Words,
     /// A trace. A notice shows how much of it has been read.
     Trace,
-    /// A trace whose script is written.
-    Changes,
+    /// A trace whose script is written. The script itself shows how far it is.
+    TraceForScript,
 }
 
 /// The inputs of commands.

@@ -10,6 +10,7 @@ mod fault;
 mod help;
 mod input;
 mod invocation;
+mod last_error;
 mod memory;
 mod mistakes;
 mod notices;
@@ -17,12 +18,10 @@ mod outcome;
 mod process_inputs;
 mod question;
 mod reading;
-mod reason;
 mod table;
 mod values;
 mod watched;
 
-pub use commands::program;
 pub use discard::Discard;
 pub use error_writer::ErrorWriter;
 pub use fault::Fault;
@@ -30,10 +29,10 @@ pub use input::{Content, InputName, Inputs, file_input};
 pub use invocation::{
     DecodeValues, Invocation, PoolTexts, ReplayOutput, ReplayValues, SearchValues, SummaryFormat,
 };
+pub use last_error::{LastError, Noting};
 pub use memory::{GlobalMemory, Memory};
 pub use mistakes::error_with_usage;
 pub use outcome::{Ending, ending_of, ending_status, finish, tell};
 pub use process_inputs::{ProcessInputs, no_input};
 pub use question::{Base, Question};
 pub use reading::read_words;
-pub use reason::{Noting, Reason};

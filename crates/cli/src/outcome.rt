@@ -4,7 +4,7 @@ ghost use Rattle.clap.specs.Words.{kind_of};
 ghost use Rattle.cli.specs.Outcome.{EndsBy, ending_of, status_of};
 
 use crate::fault::Fault;
-use crate::reason::Reason;
+use crate::last_error::LastError;
 use cc_io::Summary;
 use clap::Error;
 use clap::error::ErrorKind;
@@ -62,13 +62,13 @@ pub fn tell<R: Print + Eprint>(rt: &R, error: &Error) -> Ending
 
 /// Returns the exit status. If the program stopped before its end, prints the error on standard error first, and at a
 /// terminal the file and the reason; there it prints nothing if the reader of its output is gone.
-pub fn finish<R: Eprint>(rt: &R, ending: Ending, reason: &Reason) -> u8
+pub fn finish<R: Eprint>(rt: &R, ending: Ending, last_error: &LastError) -> u8
     ensures { result ≡ status_of ending }
 {
     if let Ending::Stopped(fault) = ending {
-        if !reason.is_silent(fault) {
+        if !last_error.is_silent(fault) {
             let _ = eprintln!(rt; "{fault}");
-            reason.print(rt, fault);
+            last_error.print(rt, fault);
         }
     }
     ending_status(ending)

@@ -6,8 +6,8 @@ ghost use Rattle.cli.specs.Input.{IsFile};
 use crate::error_writer::ErrorWriter;
 use crate::fault::Fault;
 use crate::input::{Content, InputName, Inputs};
+use crate::last_error::{LastError, Noting};
 use crate::notices::announce;
-use crate::reason::{Noting, Reason};
 use crate::watched::Watched;
 use cc_io::{FromReader, FromWriter, Page, Source};
 use either::{Either, Left, Right};
@@ -28,14 +28,14 @@ pub struct ProcessInputs<'a, R> {
     is_typed: bool,
     is_watched: bool,
     has_refused: bool,
-    reason: &'a Reason,
+    last_error: &'a LastError,
 }
 
 impl<'a, R: AllocGlobal + Files + Input + Eprint> ProcessInputs<'a, R> {
     /// Creates the inputs of the process. If `is_typed`, a user at the terminal types the standard input, and if
-    /// `is_watched`, standard error shows how much of a file has been read. `reason` keeps the name and the last error
-    /// of the input.
-    pub fn new(rt: &'a R, is_typed: bool, is_watched: bool, reason: &'a Reason) -> Self
+    /// `is_watched`, standard error shows how much of a file has been read. `last_error` keeps the name and the last
+    /// error of the input.
+    pub fn new(rt: &'a R, is_typed: bool, is_watched: bool, last_error: &'a LastError) -> Self
         ensures { ⟦<ProcessInputs<'a, R> as Inputs>⟧.has_refused result ≡ false }
     {
         ProcessInputs {
@@ -43,7 +43,7 @@ impl<'a, R: AllocGlobal + Files + Input + Eprint> ProcessInputs<'a, R> {
             is_typed,
             is_watched,
             has_refused: false,
-            reason,
+            last_error,
         }
     }
 }
@@ -87,12 +87,12 @@ impl<'a, R: AllocGlobal + Files + Input + Eprint> Inputs for ProcessInputs<'a, R
     ) -> Result<u64, Fault> {
         let is_typed = self.is_typed && matches!(content, Content::Script);
         let is_watched = self.is_watched && matches!(content, Content::Trace);
-        self.reason.set_input(self.rt.alloc(), input);
-        match open_input(self.rt, is_typed, is_watched, input, most, self.reason) {
+        self.last_error.set_input(self.rt.alloc(), input);
+        match open_input(self.rt, is_typed, is_watched, input, most, self.last_error) {
             Ok((reader, passed)) => {
                 self.has_refused = false;
                 *source = FromReader::with_limit(
-                    Left(Noting::new(reader, self.reason)),
+                    Left(Noting::new(reader, self.last_error)),
                     limit_of(content),
                 );
                 Ok(passed)
@@ -131,7 +131,7 @@ impl<'a, R: AllocGlobal + Files + Input + Eprint> Inputs for ProcessInputs<'a, R
 fn limit_of(content: Content) -> usize {
     match content {
         Content::Script | Content::Pool => 1 << 30,
-        Content::Words | Content::Trace | Content::Changes => 1 << 62,
+        Content::Words | Content::Trace | Content::TraceForScript => 1 << 62,
     }
 }
 
@@ -147,7 +147,7 @@ fn open_input<'a, R: Files + Input + Eprint>(
     is_watched: bool,
     input: InputName<'_>,
     most: u64,
-    reason: &Reason,
+    last_error: &LastError,
 ) -> Result<(Opened<'a, R>, u64), Fault>
     ensures kind { IfOk result (λ opened. IsTrue (is_left opened.0) ↔ IsFile input.entry) }
     ensures within { IfOk result (λ opened. opened.1 ≤ most) }
@@ -161,7 +161,7 @@ fn open_input<'a, R: Files + Input + Eprint>(
                 Ok((Left(Watched::new(rt, file, length)), passed))
             }
             Err(error) => {
-                reason.set_error(&error);
+                last_error.set_error(&error);
                 Err(Fault::Open)
             }
         },

@@ -1,28 +1,29 @@
 //! Parses the arguments of the command line, and reads them as an `Invocation`, or returns an error of clap's.
-ghost use Rattle.std.specs.Prelude.{◌≡◌, ◌∷◌, [], IfErr, IfOk, None, codes, is_some, true};
+ghost use Rattle.std.specs.Prelude.{◌≡◌, IfErr, IfOk, None, codes, is_some, true};
 ghost use Rattle.clap.specs.Walk.{texts};
 ghost use Rattle.clap.specs.Words.{App, FailsBy, first_of, found_of, kind_of, rows_of, subcommand_of};
 ghost use Rattle.clap.specs.Words.{subcommand_rows_of};
 ghost use Rattle.cli.specs.Invocation.{HasChoice, HasItsTexts, HasLimit, HasPoolTexts, HasText, HasValues, HasWanted};
-ghost use Rattle.cli.specs.Invocation.{IsInvocation, IsProgram, align_named, choice_fault_in, choice_fault_of};
-ghost use Rattle.cli.specs.Invocation.{command_name_of, faults_of, format_named, format_names, has_other_input};
-ghost use Rattle.cli.specs.Invocation.{input_named, is_taken, kinds_in, list_fault_of, named_fault, order_names};
-ghost use Rattle.cli.specs.Invocation.{search_fault_of, show_fault_of, summary_named, summary_names, value_fault};
+ghost use Rattle.cli.specs.Invocation.{IsInvocation, IsProgram, align_named, choice_mistake_in, choice_mistake_of};
+ghost use Rattle.cli.specs.Invocation.{command_name_of, faults_of, format_named, has_other_input};
+ghost use Rattle.cli.specs.Invocation.{input_named, is_taken, kinds_in, list_mistake_of, named_mistake};
+ghost use Rattle.cli.specs.Invocation.{search_mistake_of, show_mistake_of, summary_named, value_mistake};
 
 use crate::commands::program;
 use crate::invocation::Invocation;
 use crate::mistakes::mistake;
 use crate::question::Question;
 use crate::values::{
-    align_of, are_permissions, base_of, base_or_zero, decode_values, format_of, input_of,
-    is_address, is_on, limit_of, pool_texts, replay_values, search_values, shown_format, value_of,
-    wanted_text,
+    align_of, aligns, are_permissions, base_of, base_or_zero, decode_values, format_of, formats,
+    input_of, is_address, is_on, limit_of, orders, pool_texts, replay_values, search_values,
+    shown_format, summaries, value_of, wanted_text,
 };
 use clap::error::ErrorKind;
 use clap::{ArgMatches, Error};
 use std::alloc::Global;
 
-/// Reads the program's arguments, its own name first, as a command and its values.
+/// Reads the program's arguments, its own name first, as a command and its values. They are the words of a command
+/// line; elsewhere a capability is a word.
 ///
 /// Errors: a mistake in the arguments, a request for help or for the version, or an allocation that fails. The kind of
 /// the error says which.
@@ -33,6 +34,7 @@ pub fn read_words<'a>(alloc: Global, words: &'a [&'a str]) -> Result<Invocation<
         (app : App) × IsProgram app × (is_taken app (texts words.now) ≡ true → kind_of error ≡ ErrorKind.OutOfMemory)) }
     ensures kinds { (app : App) × IsProgram app × FailsBy (faults_of app (texts words.now)) result }
 {
+    // by `match`, since clauses speak of the error too, and `?` would convert it
     match parse_words(alloc, words) {
         Ok(matches) => Ok(invocation_of(&matches)),
         Err(error) => Err(error),
@@ -55,72 +57,45 @@ fn parse_words<'a>(alloc: Global, words: &'a [&'a str]) -> Result<ArgMatches<'a>
     }
 }
 
-/// Returns the values that `--align` accepts.
-fn aligns<'a>() -> &'a [&'a str]
-    ensures { texts result.now ≡ codes "1" ∷ codes "16" ∷ [] }
-{
-    &["1", "16"]
-}
-
-/// Returns the values that `--format` accepts.
-fn formats<'a>() -> &'a [&'a str]
-    ensures { texts result.now ≡ format_names }
-{
-    &["columns", "text", "fixed", "csv", "json"]
-}
-
-/// Returns the values that `--bytes` accepts.
-fn orders<'a>() -> &'a [&'a str]
-    ensures { texts result.now ≡ order_names }
-{
-    &["little", "big"]
-}
-
-/// Returns the values that `--summary` accepts.
-fn summaries<'a>() -> &'a [&'a str]
-    ensures { texts result.now ≡ summary_names }
-{
-    &["text", "csv", "json"]
-}
-
-/// Returns what clap found, or the error of values that exclude each other, are missing, or are not of their form.
+/// Returns what clap found, or the error of values that exclude each other, are missing, or are not of their form. The
+/// values are read by [`invocation_of`], once none of them can be refused.
 fn chosen<'a>(alloc: Global, matches: ArgMatches<'a>) -> Result<ArgMatches<'a>, Error>
     ensures read { IfOk result (λ chosen. (chosen ≡ matches.entry)
-        × (choice_fault_in (subcommand_rows_of matches.entry) ≡ None)) }
-    ensures kinds { FailsBy (kinds_in (choice_fault_in (subcommand_rows_of matches.entry))) result }
+        × (choice_mistake_in (subcommand_rows_of matches.entry) ≡ None)) }
+    ensures kinds { FailsBy (kinds_in (choice_mistake_in (subcommand_rows_of matches.entry))) result }
 {
-    match choice_fault(&matches) {
+    match choice_mistake(&matches) {
         None => Ok(matches),
         Some(kind) => Err(mistake(alloc, &matches, kind)?),
     }
 }
 
 /// Returns the kind of error of the values of `explain`, `round`, `decode` or `show`, if there is one.
-fn choice_fault(matches: &ArgMatches<'_>) -> Option<ErrorKind>
-    ensures { result ≡ choice_fault_in (subcommand_rows_of matches.now) }
+fn choice_mistake(matches: &ArgMatches<'_>) -> Option<ErrorKind>
+    ensures { result ≡ choice_mistake_in (subcommand_rows_of matches.now) }
 {
     match matches.subcommand() {
-        Some((name, values)) => named_fault(name, values),
+        Some((name, values)) => named_mistake(name, values),
         None => None,
     }
 }
 
 /// Returns the kind of error of the values of the command of this name, if there is one.
-fn named_fault(name: &str, values: &ArgMatches<'_>) -> Option<ErrorKind>
-    ensures { result ≡ named_fault name.now (rows_of (found_of values.now)) }
+fn named_mistake(name: &str, values: &ArgMatches<'_>) -> Option<ErrorKind>
+    ensures { result ≡ named_mistake name.now (rows_of (found_of values.now)) }
 {
     match name {
-        "explain" => word_fault(values),
-        "round" => list_fault(values),
-        "decode" => search_fault(values),
-        "show" => show_fault(values),
+        "explain" => word_mistake(values),
+        "round" => list_mistake(values),
+        "decode" => search_mistake(values),
+        "show" => show_mistake(values),
         _ => None,
     }
 }
 
 /// Returns the kind of error of the values of `show`, if there is one: `--line` excludes `--format`.
-fn show_fault(show: &ArgMatches<'_>) -> Option<ErrorKind>
-    ensures { result ≡ show_fault_of (rows_of (found_of show.now)) }
+fn show_mistake(show: &ArgMatches<'_>) -> Option<ErrorKind>
+    ensures { result ≡ show_mistake_of (rows_of (found_of show.now)) }
 {
     if is_on(show, "line") && has_value(show, "format") {
         Some(ErrorKind::ArgumentConflict)
@@ -131,8 +106,8 @@ fn show_fault(show: &ArgMatches<'_>) -> Option<ErrorKind>
 
 /// Returns the kind of error of the values of `decode`, if there is one: `--elf` excludes the options of other inputs,
 /// `--tags` requires `--bytes`, and numbers and permissions are of their form.
-fn search_fault(decode: &ArgMatches<'_>) -> Option<ErrorKind>
-    ensures { result ≡ search_fault_of (rows_of (found_of decode.now)) }
+fn search_mistake(decode: &ArgMatches<'_>) -> Option<ErrorKind>
+    ensures { result ≡ search_mistake_of (rows_of (found_of decode.now)) }
 {
     if is_on(decode, "elf") && has_other_input(decode) {
         return Some(ErrorKind::ArgumentConflict);
@@ -140,7 +115,7 @@ fn search_fault(decode: &ArgMatches<'_>) -> Option<ErrorKind>
     if has_value(decode, "tags") && !has_value(decode, "bytes") {
         return Some(ErrorKind::MissingRequiredArgument);
     }
-    value_fault(
+    value_mistake(
         is_address(decode, "skip")
             && is_address(decode, "count")
             && is_address(decode, "at")
@@ -161,8 +136,8 @@ fn has_other_input(decode: &ArgMatches<'_>) -> bool
 }
 
 /// Returns the kind of error of a value that is not of its form.
-fn value_fault(is_read: bool) -> Option<ErrorKind>
-    ensures { result ≡ value_fault is_read }
+fn value_mistake(is_read: bool) -> Option<ErrorKind>
+    ensures { result ≡ value_mistake is_read }
 {
     if is_read {
         None
@@ -173,20 +148,20 @@ fn value_fault(is_read: bool) -> Option<ErrorKind>
 
 /// Returns the kind of error of the values of `round`, if there is one: one of N and `--list` is required, each
 /// excludes the other, and the base is an address.
-fn list_fault(round: &ArgMatches<'_>) -> Option<ErrorKind>
-    ensures { result ≡ list_fault_of (rows_of (found_of round.now)) }
+fn list_mistake(round: &ArgMatches<'_>) -> Option<ErrorKind>
+    ensures { result ≡ list_mistake_of (rows_of (found_of round.now)) }
 {
     match (has_value(round, "list"), has_value(round, "length")) {
         (true, true) => Some(ErrorKind::ArgumentConflict),
         (false, false) => Some(ErrorKind::MissingRequiredArgument),
-        _ => value_fault(is_address(round, "base")),
+        _ => value_mistake(is_address(round, "base")),
     }
 }
 
 /// Returns the kind of error of the values of `explain`, if there is one: WORD excludes `--length` and `--base`, and
 /// without WORD `--length` is required, which excludes `--svg`, and the base is an address.
-fn word_fault(explain: &ArgMatches<'_>) -> Option<ErrorKind>
-    ensures { result ≡ choice_fault_of (rows_of (found_of explain.now)) }
+fn word_mistake(explain: &ArgMatches<'_>) -> Option<ErrorKind>
+    ensures { result ≡ choice_mistake_of (rows_of (found_of explain.now)) }
 {
     let has_length = has_value(explain, "length");
     if has_value(explain, "word") {
@@ -200,7 +175,7 @@ fn word_fault(explain: &ArgMatches<'_>) -> Option<ErrorKind>
     } else if is_on(explain, "svg") {
         Some(ErrorKind::ArgumentConflict)
     } else {
-        value_fault(is_address(explain, "base"))
+        value_mistake(is_address(explain, "base"))
     }
 }
 
@@ -255,7 +230,7 @@ fn read_show<'a>(matches: &ArgMatches<'a>) -> Invocation<'a>
 }
 
 fn read_round<'a>(matches: &ArgMatches<'a>) -> Invocation<'a>
-    requires { list_fault_of (rows_of (found_of matches.now)) ≡ None }
+    requires { list_mistake_of (rows_of (found_of matches.now)) ≡ None }
     ensures command { command_name_of result ≡ codes "round" }
     ensures values { HasValues (rows_of (found_of matches.now)) result }
 {
@@ -330,7 +305,7 @@ fn read_replay<'a>(matches: &ArgMatches<'a>) -> Invocation<'a>
 fn read_decode<'a>(matches: &ArgMatches<'a>) -> Invocation<'a>
     requires format { HasChoice format_named (codes "format") (rows_of (found_of matches.now)) }
     requires order { HasChoice input_named (codes "bytes") (rows_of (found_of matches.now)) }
-    requires search { search_fault_of (rows_of (found_of matches.now)) ≡ None }
+    requires search { search_mistake_of (rows_of (found_of matches.now)) ≡ None }
     ensures command { command_name_of result ≡ codes "decode" }
     ensures values { HasValues (rows_of (found_of matches.now)) result }
 {
@@ -362,7 +337,7 @@ fn read_annotate<'a>(matches: &ArgMatches<'a>) -> Invocation<'a>
 }
 
 fn read_explain<'a>(matches: &ArgMatches<'a>) -> Invocation<'a>
-    requires { choice_fault_of (rows_of (found_of matches.now)) ≡ None }
+    requires { choice_mistake_of (rows_of (found_of matches.now)) ≡ None }
     ensures command { command_name_of result ≡ codes "explain" }
     ensures values { HasValues (rows_of (found_of matches.now)) result }
 {

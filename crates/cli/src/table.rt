@@ -2,7 +2,7 @@
 ghost use Rattle.std.specs.Prelude.{◌≡◌};
 ghost use Rattle.cli.specs.Usage.{bare_program, program, with_commands};
 
-use crate::help::{Page, Topic};
+use crate::help::{HelpPage, Topic};
 
 /// The kind of an argument.
 #[derive(Clone, Copy)]
@@ -53,7 +53,7 @@ pub(crate) struct Choices<'a> {
 #[derive(Clone, Copy)]
 pub(crate) struct CommandRow<'a> {
     pub(crate) name: &'a str,
-    pub(crate) page: Page,
+    pub(crate) page: HelpPage,
     pub(crate) rows: &'a [Row<'a>],
 }
 
@@ -61,7 +61,7 @@ pub(crate) struct CommandRow<'a> {
 const COMMANDS: &[CommandRow] = &[
     CommandRow {
         name: "show",
-        page: Page::Show,
+        page: HelpPage::Show,
         rows: &[
             Row {
                 kind: Kind::Flag,
@@ -85,7 +85,7 @@ const COMMANDS: &[CommandRow] = &[
     },
     CommandRow {
         name: "round",
-        page: Page::Round,
+        page: HelpPage::Round,
         rows: &[
             Row {
                 kind: Kind::Address,
@@ -109,7 +109,7 @@ const COMMANDS: &[CommandRow] = &[
     },
     CommandRow {
         name: "run",
-        page: Page::Run,
+        page: HelpPage::Run,
         rows: &[
             Row {
                 kind: Kind::Slots,
@@ -133,7 +133,7 @@ const COMMANDS: &[CommandRow] = &[
     },
     CommandRow {
         name: "plan",
-        page: Page::Plan,
+        page: HelpPage::Plan,
         rows: &[
             Row {
                 kind: Kind::Slots,
@@ -175,7 +175,7 @@ const COMMANDS: &[CommandRow] = &[
     },
     CommandRow {
         name: "map",
-        page: Page::Map,
+        page: HelpPage::Map,
         rows: &[
             Row {
                 kind: Kind::Slots,
@@ -217,7 +217,7 @@ const COMMANDS: &[CommandRow] = &[
     },
     CommandRow {
         name: "replay",
-        page: Page::Replay,
+        page: HelpPage::Replay,
         rows: &[
             Row {
                 kind: Kind::Valued,
@@ -301,7 +301,7 @@ const COMMANDS: &[CommandRow] = &[
     },
     CommandRow {
         name: "decode",
-        page: Page::Decode,
+        page: HelpPage::Decode,
         rows: &[
             Row {
                 kind: Kind::Format,
@@ -373,7 +373,7 @@ const COMMANDS: &[CommandRow] = &[
     },
     CommandRow {
         name: "annotate",
-        page: Page::Annotate,
+        page: HelpPage::Annotate,
         rows: &[Row {
             kind: Kind::Free,
             name: "file",
@@ -383,7 +383,7 @@ const COMMANDS: &[CommandRow] = &[
     },
     CommandRow {
         name: "explain",
-        page: Page::Explain,
+        page: HelpPage::Explain,
         rows: &[
             Row {
                 kind: Kind::Flag,

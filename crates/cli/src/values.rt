@@ -1,11 +1,12 @@
 //! The values that clap found for arguments and options.
-ghost use Rattle.std.specs.Prelude.{◌≡◌, None, Some, codes, true, option_map, unwrap_or};
+ghost use Rattle.std.specs.Prelude.{◌≡◌, ◌∷◌, [], None, Some, codes, true, option_map, unwrap_or};
+ghost use Rattle.clap.specs.Walk.{texts};
 ghost use Rattle.clap.specs.Words.{first_of, found_of, rows_of};
 ghost use Rattle.cc_values.specs.Values.{address_in, permissions_in};
 ghost use Rattle.cli.specs.Invocation.{HasBase, HasChoice, HasDecodeValues, HasLimit, HasOutput, HasPool};
 ghost use Rattle.cli.specs.Invocation.{HasPoolTexts, HasReplayValues, HasSearch, HasText, IsBase, IsChosen, IsLimit};
-ghost use Rattle.cli.specs.Invocation.{IsRead, align_named, format_named, input_named, is_on, is_read};
-ghost use Rattle.cli.specs.Invocation.{search_fault_of, shown_format, summary_named};
+ghost use Rattle.cli.specs.Invocation.{IsRead, align_named, format_named, format_names, input_named, is_on, is_read};
+ghost use Rattle.cli.specs.Invocation.{order_names, search_mistake_of, shown_format, summary_named, summary_names};
 
 use crate::invocation::{
     DecodeValues, PoolTexts, ReplayOutput, ReplayValues, SearchValues, SummaryFormat,
@@ -121,7 +122,7 @@ pub(crate) fn pool_texts<'a>(matches: &ArgMatches<'a>) -> PoolTexts<'a>
 
 /// Returns the part of an input of `decode`, its tags, and the search.
 pub(crate) fn decode_values<'a>(matches: &ArgMatches<'a>) -> DecodeValues<'a>
-    requires { search_fault_of (rows_of (found_of matches.now)) ≡ None }
+    requires { search_mistake_of (rows_of (found_of matches.now)) ≡ None }
     ensures { HasDecodeValues (rows_of (found_of matches.now)) result }
 {
     DecodeValues {
@@ -135,7 +136,7 @@ pub(crate) fn decode_values<'a>(matches: &ArgMatches<'a>) -> DecodeValues<'a>
 
 /// Returns the values of `--holds`, `--perms` and `--unsealed`.
 pub(crate) fn search_values(matches: &ArgMatches<'_>) -> SearchValues
-    requires { search_fault_of (rows_of (found_of matches.now)) ≡ None }
+    requires { search_mistake_of (rows_of (found_of matches.now)) ≡ None }
     ensures { HasSearch (rows_of (found_of matches.now)) result }
 {
     SearchValues {
@@ -201,6 +202,13 @@ pub(crate) fn limit_of(matches: &ArgMatches<'_>) -> u32
     matches.get_one("slots").unwrap_or(DEFAULT_LIMIT)
 }
 
+/// Returns the values that `--align` accepts.
+pub(crate) fn aligns<'a>() -> &'a [&'a str]
+    ensures { texts result.now ≡ codes "1" ∷ codes "16" ∷ [] }
+{
+    &["1", "16"]
+}
+
 /// Returns the value of `--align`, or 1.
 pub(crate) fn align_of(matches: &ArgMatches<'_>) -> Align
     requires { HasChoice align_named (codes "align") (rows_of (found_of matches.now)) }
@@ -210,6 +218,13 @@ pub(crate) fn align_of(matches: &ArgMatches<'_>) -> Align
         Some("16") => Align::Sixteen,
         _ => Align::One,
     }
+}
+
+/// Returns the values that `--format` accepts.
+pub(crate) fn formats<'a>() -> &'a [&'a str]
+    ensures { texts result.now ≡ format_names }
+{
+    &["columns", "text", "fixed", "csv", "json"]
 }
 
 /// Returns the value of `--format`, or columns.
@@ -239,6 +254,13 @@ pub(crate) fn shown_format(matches: &ArgMatches<'_>) -> Option<Format>
     }
 }
 
+/// Returns the values that `--summary` accepts.
+pub(crate) fn summaries<'a>() -> &'a [&'a str]
+    ensures { texts result.now ≡ summary_names }
+{
+    &["text", "csv", "json"]
+}
+
 /// Returns the value of `--summary`, or text.
 pub(crate) fn summary_of(matches: &ArgMatches<'_>) -> SummaryFormat
     requires { HasChoice summary_named (codes "summary") (rows_of (found_of matches.now)) }
@@ -250,6 +272,13 @@ pub(crate) fn summary_of(matches: &ArgMatches<'_>) -> SummaryFormat
         Some("json") => SummaryFormat::Json,
         _ => SummaryFormat::Text,
     }
+}
+
+/// Returns the values that `--bytes` accepts.
+pub(crate) fn orders<'a>() -> &'a [&'a str]
+    ensures { texts result.now ≡ order_names }
+{
+    &["little", "big"]
 }
 
 /// Returns raw bytes in the order that `--bytes` names, or lines of digits if it is not given.

@@ -5,19 +5,19 @@ use Rattle.clap.specs.Words.{App, HasKind, Kinds, Row, Text, kind_of, subcommand
 use Rattle.clap.specs.declared.error.Error.{Error}
 use Rattle.clap.specs.declared.error.kind.ErrorKind.{ErrorKind}
 use Rattle.clap.specs.declared.error.kind.ErrorKind.TheVariants.{OutOfMemory, ValueValidation}
-use Rattle.cli.specs.Invocation.{IsInvocation, IsProgram, faults_of, kinds_in, value_fault}
+use Rattle.cli.specs.Invocation.{IsInvocation, IsProgram, faults_of, kinds_in, value_mistake}
 use Rattle.cli.specs.declared.invocation.Invocation.{Invocation}
 use Rattle.cli.specs.declared.invocation.Invocation.TheVariants.{Annotate, Ask, Decode, DecodeCore, Map, Plan, Replay, RoundList, Run}
 use Rattle.cli_program.specs.Execution.{ReplayCommand}
 use Rattle.cli_program.specs.Refusals.{EndsByArguments, FindsReplay, FindsTexts, has_good_texts}
 
 -- Texts without an error are accepted.
-pub good_without_error : (good : Bool) → kinds_in (value_fault good) ≡ [] → good ≡ true
+pub good_without_error : (good : Bool) → kinds_in (value_mistake good) ≡ [] → good ≡ true
 good_without_error true e = refl
 good_without_error false e = cc e
 
 -- An error of texts is for memory, or they are refused.
-pub refused_or_memory : (good : Bool) (e : Error) → HasKind (kinds_in (value_fault good)) e
+pub refused_or_memory : (good : Bool) (e : Error) → HasKind (kinds_in (value_mistake good)) e
     → (kind_of e ≡ OutOfMemory) ⊎ ((good ≡ false) × HasKind (ValueValidation ∷ []) e)
 refused_or_memory good e (inl memory) = inl memory
 refused_or_memory true e (inr among) = absurd among
@@ -50,7 +50,7 @@ ends_by_other replay words P Q f (inr told) = inr (told.0, f (ValueValidation �
 
 -- The error of the texts of a command that clap found is one that the arguments can give.
 pub texts_fail : (replay : ReplayCommand) (words : List Text) (invocation : Invocation) (e : Error) → (app : App) × IsProgram app × (faults_of app words ≡ [])
-    → (app : App) × IsProgram app × IsInvocation (subcommand_of app words) invocation → HasKind (kinds_in (value_fault (has_good_texts replay invocation))) e
+    → (app : App) × IsProgram app × IsInvocation (subcommand_of app words) invocation → HasKind (kinds_in (value_mistake (has_good_texts replay invocation))) e
     → EndsByArguments replay words (λ kinds. HasKind kinds e)
 texts_fail replay words invocation e taken found told = go (refused_or_memory (has_good_texts replay invocation) e told)
   where
@@ -60,7 +60,7 @@ texts_fail replay words invocation e taken found told = go (refused_or_memory (h
 
 -- The error of texts is for memory, or clap found a command whose texts are refused.
 pub texts_found : (replay : ReplayCommand) (app : App) (words : List Text) (invocation : Invocation) (e : Error) → IsInvocation (subcommand_of app words) invocation
-    → HasKind (kinds_in (value_fault (has_good_texts replay invocation))) e → (kind_of e ≡ OutOfMemory) ⊎ FindsTexts replay false (subcommand_of app words)
+    → HasKind (kinds_in (value_mistake (has_good_texts replay invocation))) e → (kind_of e ≡ OutOfMemory) ⊎ FindsTexts replay false (subcommand_of app words)
 texts_found replay app words invocation e found told = go (refused_or_memory (has_good_texts replay invocation) e told)
   where
     go : (kind_of e ≡ OutOfMemory) ⊎ ((has_good_texts replay invocation ≡ false) × HasKind (ValueValidation ∷ []) e)

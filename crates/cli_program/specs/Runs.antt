@@ -57,7 +57,7 @@ pub record ReportsRun (report : Report) (opening : List Op) (pool : Option ℕ) 
   pub reported : OnOk result (traffic.errors_now.has_failed ≡ false → (first : List Reply) (exchanges : List Exchange)
       → IsTally first exchanges session.tally → WritesReport report session first exchanges pool traffic.errors.taken traffic.errors_now.taken)
 
--- DrawsMap holds if the map of the machine's pool was written, and then the summary of the run: what the machine uses, and the
+-- DrawsMap holds if the map of the machine's pool was written, and then the statistics of the run: what the machine uses, and the
 -- tally of the replies.
 pub record DrawsMap (session : Session) (output output_now : Option (List ℕ)) : Type 0 where
   pub map : List ℕ

@@ -1,4 +1,4 @@
--- The bytes of the summary of a run: a line for each number, which is a name, a space and the
+-- The bytes of the statistics of a run: a line for each number, which is a name, a space and the
 -- number.
 use Rattle.std.specs.Prelude.{ℕ, zero, suc, ◌-◌, ◌*◌, ◌/◌, ◌%◌, List, [], ◌∷◌, ◌++◌, codes, decimal}
 use Rattle.cc_word.specs.Refusal.{name_of}

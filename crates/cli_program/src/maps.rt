@@ -18,8 +18,8 @@ use cc_syntax::{Tally, plan_numbers, plan_opening};
 use cli::{Content, Discard, Fault, InputName, Inputs, PoolTexts, file_input};
 
 /// Runs the script that FILE names on a new machine with a pool, without writing the replies, and draws the pool: as an
-/// SVG document, or as a map with the summary of the run. BASE and LENGTH are read first. If one is refused, the output
-/// is that refusal, and nothing is read.
+/// SVG document, or as a map with the statistics of the run. BASE and LENGTH are read first. If one is refused, the
+/// output is that refusal, and nothing is read.
 ///
 /// Requires: `limit` is from 1 to 65,536, and no device has failed.
 /// Errors: `Memory` if an allocation fails; `Open` if the input cannot be opened; `Read` if a read fails; `Write` if
@@ -108,7 +108,7 @@ fn draw<M: RunMemory, I: Inputs, W: Sink>(
 }
 
 /// Runs a script without writing the replies, and draws the pool if the script came to its end: an SVG document, or a
-/// map and the summary of the run.
+/// map and the statistics of the run.
 fn draw_end<M: RunMemory, S: Source, W: Sink>(
     memory: &mut M,
     opening: &[Op],

@@ -9,7 +9,7 @@ use cc_values::Usage;
 use cli::{GlobalMemory, Memory};
 use std::alloc::AllocError;
 
-/// The memory for the machine of a script, and for the summary of its run.
+/// The memory for the machine of a script, and for the statistics of its run.
 pub trait RunMemory: Memory {
     /// Creates a machine with at most `limit` slots and objects.
     ///

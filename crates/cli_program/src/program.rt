@@ -9,7 +9,7 @@ ghost use Rattle.cli_program.specs.Ending.{AnswersEveryScript, ExecutesCommand, 
 ghost use Rattle.cli_program.specs.Execution.{IsUnasked, effect_of};
 ghost use Rattle.cli_program.specs.Refusals.{EndsByArguments, FindsReplay, FindsTexts, has_good_texts};
 ghost use Rattle.cli.specs.Devices.{console_of};
-ghost use Rattle.cli.specs.Invocation.{IsInvocation, IsProgram, is_taken, kinds_in, value_fault};
+ghost use Rattle.cli.specs.Invocation.{IsInvocation, IsProgram, is_taken, kinds_in, value_mistake};
 ghost use Rattle.cli.specs.Outcome.{EndsOn, status_of};
 
 use crate::execution::execute;
@@ -20,7 +20,7 @@ use cc_io::{FromWriter, Sink};
 use clap::Error;
 use clap::error::ErrorKind;
 use cli::{
-    Ending, ErrorWriter, Fault, Inputs, Invocation, Memory, Noting, ProcessInputs, Reason,
+    Ending, ErrorWriter, Fault, Inputs, Invocation, LastError, Memory, Noting, ProcessInputs,
     ending_of, finish, no_input, tell,
 };
 use std::alloc::AllocError;
@@ -38,16 +38,16 @@ pub fn run_program<
     requires { M.has_failed memory.old ≡ false }
     ensures { (end : EndingSpec) × (result ≡ status_of end) }
 {
-    let reason = Reason::new(terminals.errors);
-    let ending = answer_arguments(rt, memory, terminals, &reason);
-    finish(rt, ending, &reason)
+    let last_error = LastError::new(terminals.errors);
+    let ending = answer_arguments(rt, memory, terminals, &last_error);
+    finish(rt, ending, &last_error)
 }
 
 /// Executes the command line of the process, and returns the program's end.
 fn answer_arguments<
     R: Env + AllocGlobal + Files + Input + Print + Eprint,
     M: RunMemory + ReplaySupport,
->(rt: &R, memory: &mut M, terminals: Terminals, reason: &Reason) -> Ending
+>(rt: &R, memory: &mut M, terminals: Terminals, last_error: &LastError) -> Ending
     requires { M.has_failed memory.old ≡ false }
 {
     let arguments = match env::args(rt) {
@@ -59,7 +59,7 @@ fn answer_arguments<
         }
     };
     match arguments {
-        Ok(arguments) => answer_strings(rt, memory, terminals, arguments.as_slice(), reason),
+        Ok(arguments) => answer_strings(rt, memory, terminals, arguments.as_slice(), last_error),
         Err(_) => Ending::Stopped(Fault::Memory),
     }
 }
@@ -71,7 +71,7 @@ fn answer_strings<R: AllocGlobal + Files + Input + Print + Eprint, M: RunMemory 
     memory: &mut M,
     terminals: Terminals,
     arguments: &[String],
-    reason: &Reason,
+    last_error: &LastError,
 ) -> Ending
     requires { M.has_failed memory.old ≡ false }
 {
@@ -83,13 +83,14 @@ fn answer_strings<R: AllocGlobal + Files + Input + Print + Eprint, M: RunMemory 
     match words {
         Ok(mut words) => {
             ask_for_help(&mut words);
-            answer_on_process(rt, memory, terminals, words.as_slice(), reason)
+            answer_on_process(rt, memory, terminals, words.as_slice(), last_error)
         }
         Err(_) => Ending::Stopped(Fault::Memory),
     }
 }
 
-/// Makes `help COMMAND` the arguments `COMMAND --help`, and `help` the argument `--help`.
+/// Makes `help COMMAND` the arguments `COMMAND --help`, and `help` the argument `--help`. clap's own command `help` is
+/// disabled, so that the program has the commands of the table alone.
 fn ask_for_help(words: &mut [&str]) {
     let count = words.len();
     if (count == 2 || count == 3) && words[1] == "help" {
@@ -103,27 +104,27 @@ fn ask_for_help(words: &mut [&str]) {
 pub fn answer_on_process<
     R: AllocGlobal + Files + Input + Print + Eprint,
     M: RunMemory + ReplaySupport,
->(rt: &R, memory: &mut M, terminals: Terminals, words: &[&str], reason: &Reason) -> Ending
+>(rt: &R, memory: &mut M, terminals: Terminals, words: &[&str], last_error: &LastError) -> Ending
     requires { M.has_failed memory.old ≡ false }
     ensures refused { result ≡ ending.Refused → (app : App) × IsProgram app
         × ((is_taken app (texts words.now) ≡ false)
         ⊎ FindsTexts M.replay false (subcommand_of app (texts words.now))) }
     ensures ends { EndsByArguments M.replay (texts words.now) (λ kinds. EndsOn kinds result) }
 {
-    match answer_on_devices(rt, memory, terminals, words, reason) {
+    match try_on_process(rt, memory, terminals, words, last_error) {
         Ok(ending) => ending,
         Err(error) => tell(rt, &error),
     }
 }
 
-/// Executes the arguments of a command line on the files and the standard streams of the process, as `answer_words`
-/// does.
-fn answer_on_devices<R: AllocGlobal + Files + Input + Print + Eprint, M: RunMemory + ReplaySupport>(
+/// Executes the arguments of a command line on the files and the standard streams of the process, as [`answer_words`]
+/// does on any devices.
+fn try_on_process<R: AllocGlobal + Files + Input + Print + Eprint, M: RunMemory + ReplaySupport>(
     rt: &R,
     memory: &mut M,
     terminals: Terminals,
     words: &[&str],
-    reason: &Reason,
+    last_error: &LastError,
 ) -> Result<Ending, Error>
     requires { M.has_failed memory.old ≡ false }
     ensures accepted { IfOk result (λ end. end ≢ ending.Refused) }
@@ -136,10 +137,11 @@ fn answer_on_devices<R: AllocGlobal + Files + Input + Print + Eprint, M: RunMemo
         rt,
         terminals.input && terminals.errors,
         terminals.errors,
-        reason,
+        last_error,
     );
+    // until the command opens its input
     let mut source = no_input();
-    let mut sink = FromWriter::new(Noting::new(io::writer(rt), reason));
+    let mut sink = FromWriter::new(Noting::new(io::writer(rt), last_error));
     let mut errors = FromWriter::new(ErrorWriter { to: rt });
     answer_words(
         memory,
@@ -209,6 +211,7 @@ pub fn answer_words<M: RunMemory + ReplaySupport, I: Inputs, W: Sink, E: Sink>(
         ↔ (M.has_failed memory.new ≡ true)) }
     ensures unread { OnErr result (source.new ≡ source.old) }
 {
+    // by `match`, since clauses speak of the error too, and `?` would convert it
     match read_invocation(memory, words) {
         Ok(invocation) => Ok(answer_invocation(
             memory, terminals, invocation, inputs, source, sink, errors,
@@ -247,7 +250,7 @@ fn check_replay_texts<M: ReplaySupport>(
     invocation: Invocation<'_>,
 ) -> Result<(), Error>
     requires { M.has_failed memory.old ≡ false }
-    ensures kinds { FailsBy (kinds_in (value_fault (has_good_texts M.replay invocation.entry))) result }
+    ensures kinds { FailsBy (kinds_in (value_mistake (has_good_texts M.replay invocation.entry))) result }
     ensures fails { MatchResult result (λ checked. M.has_failed memory.new ≡ false)
         (λ error. (kind_of error ≡ ErrorKind.OutOfMemory) ↔ (M.has_failed memory.new ≡ true)) }
 {

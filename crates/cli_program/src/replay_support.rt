@@ -4,7 +4,7 @@ ghost use Rattle.clap.specs.Words.{FailsBy, kind_of};
 ghost use Rattle.cc_io.specs.Devices.{OutputState};
 ghost use Rattle.cli.specs.Devices.{IsEnd, OnOutput, console_of};
 ghost use Rattle.cli.specs.Input.{OpensFile};
-ghost use Rattle.cli.specs.Invocation.{kinds_in, value_fault};
+ghost use Rattle.cli.specs.Invocation.{kinds_in, value_mistake};
 ghost use Rattle.cli_program.specs.Execution.{IsUnasked, ReplayCommand, no_replay};
 
 use cc_io::{Sink, Summary, write_refusal};
@@ -27,7 +27,7 @@ pub trait ReplaySupport: Memory {
     ///
     /// Errors: `ValueValidation` if a text is refused, or the program is one without `replay`; an allocation fails.
     fn check_replay(&mut self, values: ReplayValues<'_>) -> Result<(), Error>
-        ensures kinds { FailsBy (kinds_in (value_fault (replay.accepts values.entry))) result }
+        ensures kinds { FailsBy (kinds_in (value_mistake (replay.accepts values.entry))) result }
         ensures fails { MatchResult result (λ checked. Self.has_failed self.new ≡ false)
             (λ error. (kind_of error ≡ ErrorKind.OutOfMemory) ↔ (Self.has_failed self.new ≡ true)) };
 

@@ -1,4 +1,4 @@
-//! Reports on standard error: the summary of a run, and hints.
+//! Reports on standard error: the statistics of a run, and hints.
 ghost use Rattle.std.specs.Prelude.{◌≡◌, ◌≤◌, ◌^◌, List, ℕ, ◌↔◌, IfOk, IsErr, OnErr, OnOk, false, true};
 ghost use Rattle.std.specs.Io.KnownBytes.{Appends};
 ghost use Rattle.cc_values.specs.declared.reply.Reply.{Reply};
@@ -19,7 +19,7 @@ use std::alloc::{AllocError, Global};
 /// The parts of the report of a run on standard error.
 #[derive(Clone, Copy)]
 pub struct Report {
-    /// Whether the summary is written.
+    /// Whether the statistics are written.
     pub stats: bool,
     /// Whether hints are written.
     pub hints: bool,
@@ -37,10 +37,10 @@ impl Report {
     }
 }
 
-/// Writes the summary of a run and hints, if the report has them. `pool` is the length of the pool that the opening
+/// Writes the statistics of a run and hints, if the report has them. `pool` is the length of the pool that the opening
 /// requests, if any. Errors of the sink are ignored, and nothing is written after one.
 ///
-/// Errors: `AllocError` if the summary is requested and an allocation fails; nothing is written then.
+/// Errors: `AllocError` if the statistics are requested and an allocation fails; nothing is written then.
 pub fn write_report<M: RunMemory, E: Sink>(
     memory: &mut M,
     session: &Session<'_>,

@@ -1,4 +1,4 @@
-//! The summary of a run: a line for each number.
+//! The statistics of a run: a line for each number.
 ghost use Rattle.std.specs.Prelude.{◌≡◌, ◌+◌, ◌*◌, ◌≤◌, ◌^◌, ◌++◌, [], Err, OnErr, false, length};
 ghost use Rattle.cc_io.specs.Devices.{SendsBytes};
 ghost use Rattle.cc_io.specs.Numbered.{line_with_decimal};
@@ -20,16 +20,16 @@ use cc_io::{
 use cc_syntax::{Count, Tally};
 use cc_values::Usage;
 
-/// Writes the summary of a run, a line for each number, and flushes the sink once after the last.
+/// Writes the statistics of a run, a line for each number, and flushes the sink once after the last.
 ///
-/// The summary has the number of lines that got a reply. For each refusal it has the number of
+/// The statistics have the number of lines that got a reply. For each refusal they have the number of
 /// replies that are it, and the number of the line that got the first. The other numbers say what
 /// the machine uses. Setup operations are not counted as lines, and a refusal that one of them got
 /// has the line 0.
 ///
 /// Requires: the sink has not failed; at most 2^80 bytes are held, which
 /// `usage_of` of cc_draw ensures.
-/// Errors: `Write` if the sink fails. A prefix of the summary is then written.
+/// Errors: `Write` if the sink fails. A prefix of the statistics is then written.
 pub fn show_statistics<W: Sink>(usage: &Usage, tally: &Tally, sink: &mut W) -> Result<(), IoError>
     requires sink { (W.state sink.old).has_failed ≡ false }
     requires fits { usage.now.held ≤ 2 ^ 80 }
@@ -41,7 +41,7 @@ pub fn show_statistics<W: Sink>(usage: &Usage, tally: &Tally, sink: &mut W) -> R
     write_and_flush(&text, sink)
 }
 
-/// Appends the summary of a run.
+/// Appends the statistics of a run.
 ///
 /// Requires: `text` is empty.
 fn push_statistics(text: &mut Text, usage: &Usage, tally: &Tally)

@@ -1,7 +1,7 @@
 //! The memory of a trace that is replayed.
 ghost use Rattle.std.specs.Prelude.{◌≡◌, ◌↔◌, IfOk, MatchResult, false, is_err, is_ok, true};
 ghost use Rattle.clap.specs.Words.{FailsBy, kind_of};
-ghost use Rattle.cli.specs.Invocation.{kinds_in, value_fault};
+ghost use Rattle.cli.specs.Invocation.{kinds_in, value_mistake};
 ghost use Rattle.cli_replay.specs.ReplayValues.{replay_in};
 
 use crate::mistakes::check_values;
@@ -23,7 +23,7 @@ pub trait TraceMemory: Memory {
     /// Errors: `ValueValidation` if a text is refused, with a message that names the option and its forms; an
     /// allocation fails.
     fn check_values(&mut self, values: ReplayValues<'_>) -> Result<(), Error>
-        ensures kinds { FailsBy (kinds_in (value_fault (is_ok (replay_in values.entry)))) result }
+        ensures kinds { FailsBy (kinds_in (value_mistake (is_ok (replay_in values.entry)))) result }
         ensures fails { MatchResult result (λ checked. Self.has_failed self.new ≡ false)
             (λ error. (kind_of error ≡ ErrorKind.OutOfMemory) ↔ (Self.has_failed self.new ≡ true)) };
 

@@ -1,7 +1,7 @@
 //! The errors of values of `replay` that are refused, as errors of clap's.
 ghost use Rattle.std.specs.Prelude.{◌≡◌, IfOk, is_ok};
 ghost use Rattle.clap.specs.Words.{FailsBy, kind_of};
-ghost use Rattle.cli.specs.Invocation.{kinds_in, value_fault};
+ghost use Rattle.cli.specs.Invocation.{kinds_in, value_mistake};
 ghost use Rattle.cli_replay.specs.ReplayValues.{replay_in};
 
 use crate::replay_values::{
@@ -26,7 +26,7 @@ struct WrongValue<'a> {
 ///
 /// Errors: they are not, or an allocation fails.
 pub(crate) fn check_values(alloc: Global, values: ReplayValues<'_>) -> Result<(), Error>
-    ensures { FailsBy (kinds_in (value_fault (is_ok (replay_in values.entry)))) result }
+    ensures { FailsBy (kinds_in (value_mistake (is_ok (replay_in values.entry)))) result }
 {
     match replay_of(values) {
         Ok(_) => Ok(()),

@@ -75,7 +75,7 @@ fn content_of(output: ReplayOutput<'_>) -> Content
     ensures { result ≡ trace_content (Some output.entry) }
 {
     match output {
-        ReplayOutput::Script => Content::Changes,
+        ReplayOutput::Script => Content::TraceForScript,
         _ => Content::Trace,
     }
 }

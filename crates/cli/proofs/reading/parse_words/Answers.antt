@@ -7,7 +7,7 @@ use Rattle.clap.specs.Walk.{Row, Text, texts}
 use Rattle.clap.specs.Words.{App, FailsBy, HasKind, is_simple, kind_of, subcommand_of, subcommand_rows_of, takes}
 use Rattle.clap.specs.declared.error.Error.{Error}
 use Rattle.clap.specs.declared.error.kind.ErrorKind.TheVariants.{OutOfMemory}
-use Rattle.cli.specs.Invocation.{HasItsTexts, IsProgram, choice_fault_in, faults_of, format_names, is_taken, kinds_in, order_names, program, summary_names}
+use Rattle.cli.specs.Invocation.{HasItsTexts, IsProgram, choice_mistake_in, faults_of, format_names, is_taken, kinds_in, order_names, program, summary_names}
 use Rattle.cli.proofs.ChoiceLemmas.{choice_fails, choice_refuses, clap_fails, taken_parts}
 use Rattle.cli.proofs.InvocationLemmas.{found}
 use Rattle.cli.proofs.reading.parse_words.Goals as goal
@@ -42,7 +42,7 @@ returns-in-Ok-clause-read c =
       is_program,
       same,
       subst HasItsTexts (sym same) (found c.aligns.result c.aligns.ensures c.formats.result c.formats.ensures c.orders.result c.orders.ensures c.summaries.result
-          c.summaries.ensures words faultless (sym (ap choice_fault_in matches) ∙ told.1)),
+          c.summaries.ensures words faultless (sym (ap choice_mistake_in matches) ∙ told.1)),
     ))
     c.chosen.ensures.read
 
@@ -54,9 +54,9 @@ returns-in-Ok-clause-refused c =
     let is_program = is_program_of c.aligns.result c.formats.result c.orders.result c.summaries.result c.aligns.ensures c.formats.ensures c.orders.ensures c.summaries.ensures in
     let matches : subcommand_rows_of c.in-Ok.matches ≡ subcommand_of app words =
     (c.in-Ok.ensures.matches (ap is_simple is)).1 ∙ ap (λ (a : App). subcommand_of a words) is in
-    choice_refuses (choice_fault_in (subcommand_rows_of c.in-Ok.matches)) c.chosen.result
+    choice_refuses (choice_mistake_in (subcommand_rows_of c.in-Ok.matches)) c.chosen.result
     (λ error. (app : App) × IsProgram app × (is_taken app words ≡ true → kind_of error ≡ OutOfMemory)) c.chosen.ensures.kinds
-    (λ error told. (app, is_program, λ taken. told (ap choice_fault_in matches ∙ (taken_parts app words taken).1)))
+    (λ error told. (app, is_program, λ taken. told (ap choice_mistake_in matches ∙ (taken_parts app words taken).1)))
 
 pub returns-in-Err-clause-refused : goal.returns-in-Err-clause-refused
 returns-in-Err-clause-refused c =
@@ -84,7 +84,7 @@ returns-in-Ok-clause-kinds c =
     let faultless : fault_of app words ≡ [] = ap (λ (a : App). fault_of a words) (sym is) ∙ c.in-Ok.ensures.kinds (ap is_simple_and_free is) in
     let matches : subcommand_rows_of c.in-Ok.matches ≡ subcommand_of app words =
     (c.in-Ok.ensures.matches (ap is_simple is)).1 ∙ ap (λ (a : App). subcommand_of a words) is in
-    let told = subst (λ (met : Option (Text × List Row)). FailsBy (kinds_in (choice_fault_in met)) c.chosen.result) matches c.chosen.ensures.kinds in
+    let told = subst (λ (met : Option (Text × List Row)). FailsBy (kinds_in (choice_mistake_in met)) c.chosen.result) matches c.chosen.ensures.kinds in
     (app, is_program, choice_fails app words c.chosen.result faultless told)
 
 pub returns-in-Err-clause-kinds : goal.returns-in-Err-clause-kinds

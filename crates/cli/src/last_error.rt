@@ -1,4 +1,4 @@
-//! The reason that a device of the process failed, for a user at a terminal.
+//! The last error of a device of the process, for a user at a terminal.
 ghost use Rattle.std.specs.Prelude.{◌≡◌};
 
 use crate::fault::Fault;
@@ -14,16 +14,16 @@ const EPIPE: i32 = 32;
 ///
 /// No clause says what is in it. `tests/program` shows what is printed.
 #[derive(Drop)]
-pub struct Reason {
+pub struct LastError {
     is_terminal: bool,
     code: Cell<Option<i32>>,
     file: Cell<Option<String>>,
 }
 
-impl Reason {
-    /// Creates a reason without an error. Only if standard error is a terminal, anything is printed.
-    pub fn new(is_terminal: bool) -> Reason {
-        Reason {
+impl LastError {
+    /// Creates one without an error. Only if standard error is a terminal, anything is printed.
+    pub fn new(is_terminal: bool) -> LastError {
+        LastError {
             is_terminal,
             code: Cell::new(None),
             file: Cell::new(None),
@@ -72,15 +72,15 @@ impl Reason {
 #[derive(Drop)]
 pub struct Noting<'a, D> {
     device: D,
-    reason: &'a Reason,
+    last_error: &'a LastError,
 }
 
 impl<'a, D> Noting<'a, D> {
-    /// Creates a device whose errors are kept in `reason`.
-    pub fn new(device: D, reason: &'a Reason) -> Self
+    /// Creates a device whose errors are kept in `last_error`.
+    pub fn new(device: D, last_error: &'a LastError) -> Self
         ensures { result.device ≡ device }
     {
-        Noting { device, reason }
+        Noting { device, last_error }
     }
 }
 
@@ -90,7 +90,7 @@ impl<D: Read> Read for Noting<'_, D> {
     fn read(&mut self, room: &mut [u8]) -> io::Result<usize> {
         let result = self.device.read(room);
         if let Err(error) = &result {
-            self.reason.set_error(error);
+            self.last_error.set_error(error);
         }
         result
     }
@@ -100,7 +100,7 @@ impl<D: Write> Write for Noting<'_, D> {
     fn write(&mut self, piece: &[u8]) -> io::Result<usize> {
         let result = self.device.write(piece);
         if let Err(error) = &result {
-            self.reason.set_error(error);
+            self.last_error.set_error(error);
         }
         result
     }
@@ -108,7 +108,7 @@ impl<D: Write> Write for Noting<'_, D> {
     fn flush(&mut self) -> io::Result<()> {
         let result = self.device.flush();
         if let Err(error) = &result {
-            self.reason.set_error(error);
+            self.last_error.set_error(error);
         }
         result
     }
