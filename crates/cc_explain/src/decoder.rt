@@ -26,8 +26,8 @@ use cc_word::Refusal;
 
 /// Replies to an entry with the row of its word, or with the refusal `syntax` in this format. Each
 /// reply has a line feed.
-// The decoder of all words, without addresses: it tests nothing for a word, and its replies are
-// inlined into the loop over the entries.
+// The decoder of all words, without addresses: for a word it tests neither tags nor a search, and its
+// replies are inlined into the loop over the entries.
 #[derive(Clone, Copy)]
 pub(crate) struct PlainDecoder {
     /// The form of the input.

@@ -53,6 +53,7 @@ pub fn decode_words<R: Source, W: Sink>(
     }
     let mut page = Batch::new();
     push_header(&mut page, &options);
+    // `pump` takes no answerer that is done before the first entry
     if part.count == Some(0) {
         return match write_and_flush(&page, sink) {
             Ok(()) => Ok(Summary { any_error: false }),

@@ -311,7 +311,7 @@ fn push_values(batch: &mut Batch, separator: u8, word: u128, decoded: &Decoded, 
     push_rights(batch, separator, &decoded.fields, last);
     // of the two digits of the exponent, an exponent below 10 has one
     batch.drop_last(usize::from(decoded.exponent < 10));
-    push_answer(batch, separator, canonical);
+    push_canonical(batch, separator, canonical);
 }
 
 /// Appends the word, its base and its top, the first three values.
@@ -361,7 +361,7 @@ fn push_rights(batch: &mut Batch, separator: u8, fields: &Fields, last: u8)
 
 /// Appends whether a word is canonical, with a separator before it.
 #[inline(always)]
-fn push_answer(batch: &mut Batch, separator: u8, canonical: bool)
+fn push_canonical(batch: &mut Batch, separator: u8, canonical: bool)
     requires { length batch.old + 4 ≤ 32768 }
     ensures value { batch.new ≡ batch.old ++ (separator ∷ []) ++ (if canonical then codes "yes" else codes "no") }
     ensures fits { length batch.new ≤ length batch.old + 4 }

@@ -20,4 +20,4 @@ returns-clause-value c =
     ∙ ap (λ (n : ℕ). take (length c.push_rights.new.batch - n) c.push_rights.new.batch) c.from-2.ensures
     ∙ ap (λ (l : List ℕ). take (length l - bool_byte (ltb decoded.exponent 10)) l) listed
     ∙ shortened before decoded.exponent fits in
-    rw (c.push_answer.ensures.value, cut, c.push_bounds.ensures.value, decoded.is_exponent) (simp append_assoc)
+    rw (c.push_canonical.ensures.value, cut, c.push_bounds.ensures.value, decoded.is_exponent) (simp append_assoc)
