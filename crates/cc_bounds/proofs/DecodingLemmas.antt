@@ -1,11 +1,13 @@
 -- Each relation of decoding has at most one number, and so each word at most one span.
-use Rattle.std.proofs.Common.{◌≡◌, ℕ, ◌+◌, ◌-◌, ◌*◌, ◌<◌, ◌≤◌, ◌/◌, ◌%◌, ◌^◌, Bool, true, false, sym, ◌∙◌, ap, arith, inl, inr}
+use Rattle.std.proofs.Common.{refl, ◌≡◌, ℕ, ◌+◌, ◌-◌, ◌*◌, ◌<◌, ◌≤◌, ◌/◌, ◌%◌, ◌^◌, Bool, true, false, sym, ◌∙◌, ap, arith, inl, inr, min}
+use Rattle.std.specs.Prelude.{if◌then◌else◌}
 use Rattle.std.proofs.Math.Nat.{mul-le-mul_right, div-add-mod'}
 use Rattle.std.proofs.lemmas.Bool.{cases_lt}
 use Rattle.cc_word.specs.Word.{bit_of}
 use Rattle.cc_word.specs.declared.fields.Fields.{Fields}
 use Rattle.cc_bounds.specs.declared.span.Span.{Span}
-use Rattle.cc_bounds.specs.Decoding.{stored_exponent, without_exponent, base_mantissa, IsTopMantissa, window_size, IsWindow, IsPlaced, IsDecodedBase, IsTopBeside, IsDecodedTop, DecodesTo}
+use Rattle.cc_bounds.specs.Decoding.{exponent_digits, exponent_field, stored_exponent, without_exponent}
+use Rattle.cc_bounds.specs.Decoding.{base_mantissa, IsTopMantissa, window_size, IsWindow, IsPlaced, IsDecodedBase, IsTopBeside, IsDecodedTop, DecodesTo}
 
 -- numbers that are equal modulo a size, and less than it apart, are equal
 pub close_same : (size less more : ℕ) → less ≤ more → more < less + size → less % size ≡ more % size → less ≡ more
@@ -30,6 +32,25 @@ near_same size one other below above same =
       | inl less ↦ close_same size one other (omega arith) (omega arith) same
       | inr more ↦ sym (close_same size other one (omega arith) (omega arith) back)
     ]
+
+-- ---- the exponent
+
+-- over plain numbers
+min-if : (ie : Bool) (digits : ℕ) → (if ie then min 52 digits else 0) ≡ min 52 (if ie then digits else 0)
+min-if true digits = refl
+min-if false digits = refl
+
+-- the exponent is its field, or 52 if that is more
+pub exponent_field-capped : (fields : Fields) → stored_exponent fields ≡ min 52 (exponent_field fields)
+exponent_field-capped fields = min-if fields.ie (exponent_digits fields)
+
+if-fits : (ie : Bool) (digits : ℕ) → digits ≤ 63 → (if ie then digits else 0) ≤ 63
+if-fits true digits fits = fits
+if-fits false digits fits = omega arith
+
+-- the field has six bits
+pub exponent_field-fits : (fields : Fields) → exponent_field fields ≤ 63
+exponent_field-fits fields = if-fits fields.ie (exponent_digits fields) (omega arith)
 
 -- ---- the top mantissa
 

@@ -10,7 +10,7 @@ use crate::span::Span;
 use cc_word::Fields;
 
 /// The largest exponent of decoded bounds. A larger exponent field is treated as this.
-const MAX_EXPONENT: u64 = 52;
+pub const MAX_EXPONENT: u64 = 52;
 
 /// At this exponent and above, T reaches bit 64, so that T alone gives all 65 bits of the top.
 pub(crate) const FIRST_LARGE_EXPONENT: u64 = 51;
@@ -51,8 +51,10 @@ fn without_exponent(ie: bool, field: u16) -> u64
 
 /// Returns the exponent as it is stored, from 0 to 63: 0 without IE. With IE, its octal digits are
 /// the low three bits of the T field and of the B field.
+///
+/// [`exponent`] is this field, or [`MAX_EXPONENT`] if it is more.
 #[inline(always)]
-pub(crate) fn exponent_field(fields: &Fields) -> u64
+pub fn exponent_field(fields: &Fields) -> u64
     ensures field { result ≡ exponent_field fields.now }
     ensures capped { stored_exponent fields.now ≡ min 52 result }
     ensures fits { result ≤ 63 }
@@ -158,11 +160,14 @@ pub(crate) fn large_stores(fields: &Fields, exponent: u64) -> bool
     base_mantissa(fields) + mantissa_length(fields) <= 1 << (64 - exponent)
 }
 
-/// Returns the bounds of a word with this exponent field.
+/// Returns the bounds of a word, as [`decode`] does, from its exponent field.
+///
+/// Requires: `exponent` is the [`exponent_field`] of the fields.
 #[inline(always)]
-pub(crate) fn bounds_of(fields: &Fields, exponent: u64) -> Span
+pub fn decode_with(fields: &Fields, exponent: u64) -> Span
     requires { stored_exponent fields.now ≡ min 52 exponent }
-    ensures { DecodesTo fields.now result }
+    ensures decodes { DecodesTo fields.now result }
+    ensures only { (span : SpanSpec) → DecodesTo fields.now span → span ≡ result }
 {
     if exponent < FIRST_LARGE_EXPONENT {
         small_bounds(fields, exponent)
@@ -186,5 +191,5 @@ pub fn decode(fields: &Fields) -> Span
     // The word's own address is representable for its bounds.
     ensures representable { IsRepresentable result.base (stored_exponent fields.now) fields.now.address }
 {
-    bounds_of(fields, exponent_field(fields))
+    decode_with(fields, exponent_field(fields))
 }

@@ -3,11 +3,11 @@ ghost use Rattle.std.specs.Prelude.{◌≡◌, ◌+◌, ◌/◌, ◌%◌, ◌^�
 ghost use Rattle.cc_bounds.specs.Span.{IsSpan, span_from, length_of};
 ghost use Rattle.cc_bounds.specs.Granule.{IsExponent, IsGranted, IsSound, exponent_of};
 ghost use Rattle.cc_bounds.specs.Encoding.{HasBoundsFields, StoresSpan, ie_of, t_of, b_of};
-ghost use Rattle.cc_bounds.specs.Decoding.{DecodesTo, exponent_field, stored_exponent};
+ghost use Rattle.cc_bounds.specs.Decoding.{DecodesTo, exponent_field};
 ghost use Rattle.cc_bounds.specs.declared.span.Span.{Span as SpanSpec};
 ghost use Rattle.cc_bounds.specs.Tightest.{DecodesBack, IsTight, IsTightest};
 
-use crate::decoding::{FIRST_LARGE_EXPONENT, bounds_of, exponent_field, large_stores};
+use crate::decoding::{FIRST_LARGE_EXPONENT, decode_with, exponent_field, large_stores};
 use crate::rounding::{granule_power, rounded};
 use crate::span::{ADDRESS_SPACE, Span};
 use cc_word::Fields;
@@ -79,8 +79,8 @@ impl Set {
             → result ≡ Some (record { granted = span; exact = true }) }
     {
         let exponent = exponent_field(fields);
-        let span = bounds_of(fields, exponent);
-        if !is_stored(fields, exponent, &span) {
+        let span = decode_with(fields, exponent);
+        if !stores_with(fields, exponent, &span) {
             return None;
         }
         Some(Set {
@@ -204,15 +204,16 @@ pub fn stores(fields: &Fields, bounds: &Span) -> bool
     requires { DecodesTo fields.now bounds.now }
     ensures { IsTrue result ↔ StoresSpan fields.now bounds.now }
 {
-    is_stored(fields, exponent_field(fields), bounds)
+    stores_with(fields, exponent_field(fields), bounds)
 }
 
-/// Returns whether the fields with this exponent field store the bounds that they decode to.
+/// Returns whether the fields store the bounds that they decode to, as [`stores`] does, from their
+/// exponent field.
+///
+/// Requires: `exponent` is the exponent field of the fields, and they decode to `bounds`.
 #[inline(always)]
-fn is_stored(fields: &Fields, exponent: u64, bounds: &Span) -> bool
+pub fn stores_with(fields: &Fields, exponent: u64, bounds: &Span) -> bool
     requires is_field { exponent ≡ exponent_field fields.now }
-    requires capped { stored_exponent fields.now ≡ min 52 exponent }
-    requires fits { exponent ≤ 63 }
     requires decodes { DecodesTo fields.now bounds.now }
     ensures { IsTrue result ↔ StoresSpan fields.now bounds.now }
 {

@@ -11,8 +11,8 @@ mod span;
 mod window;
 
 pub use align::Align;
-pub use decoding::{decode, exponent};
-pub use encoding::{Set, set_bounds, stores};
+pub use decoding::{MAX_EXPONENT, decode, decode_with, exponent, exponent_field};
+pub use encoding::{Set, set_bounds, stores, stores_with};
 pub use len::Len;
 pub use rounding::{alignment_mask, granule, round_length};
 pub use span::{ADDRESS_SPACE, Span};

@@ -3,13 +3,13 @@ ghost use Rattle.std.specs.Prelude.{◌≡◌, ◌↔◌, IsTrue, MatchOption};
 ghost use Rattle.cc_word.specs.Word.{word_of};
 ghost use Rattle.cc_word.specs.ObjType.{IsObjType};
 ghost use Rattle.cc_word.specs.declared.fields.Fields.{Fields as FieldsSpec};
-ghost use Rattle.cc_bounds.specs.Decoding.{DecodesTo, stored_exponent};
+ghost use Rattle.cc_bounds.specs.Decoding.{DecodesTo, exponent_field, stored_exponent};
 ghost use Rattle.cc_bounds.specs.declared.span.Span.{Span as SpanSpec};
 ghost use Rattle.cc_cap.specs.Canonical.{IsCanonical};
 ghost use Rattle.cc_cap.specs.Defect.{HasDefect};
 
 use crate::canonical::Defect;
-use cc_bounds::{ADDRESS_SPACE, Span, decode, exponent, stores};
+use cc_bounds::{ADDRESS_SPACE, MAX_EXPONENT, Span, decode_with, exponent_field, stores_with};
 use cc_word::{Fields, ObjType, unpack};
 
 /// A decoded word: its fields, and the exponent and the bounds that they decode to.
@@ -23,9 +23,12 @@ pub struct Decoded {
     pub exponent: u8,
     /// The bounds that the fields decode to.
     pub bounds: Span,
+    // the exponent as the fields store it, from 0 to 63
+    field: u8,
     pub ghost is_exponent: { exponent ≡ stored_exponent fields },
     pub ghost decodes: { (span : SpanSpec) → DecodesTo fields span → (span.base ≡ bounds.base)
         × (span.top ≡ bounds.top) },
+    pub ghost is_field: { field ≡ exponent_field fields },
 }
 
 impl Decoded {
@@ -38,10 +41,12 @@ impl Decoded {
         ensures only_bounds { (span : SpanSpec) → DecodesTo result.fields span → span ≡ result.bounds }
     {
         let fields = unpack(word);
+        let field = exponent_field(&fields);
         Decoded {
             fields,
-            exponent: exponent(&fields),
-            bounds: decode(&fields),
+            exponent: field.min(MAX_EXPONENT) as u8,
+            bounds: decode_with(&fields, field),
+            field: field as u8,
         }
     }
 
@@ -63,7 +68,7 @@ impl Decoded {
             Some(Defect::ReservedBits)
         } else if !is_type(self.fields.otype) {
             Some(Defect::ReservedType)
-        } else if stores(&self.fields, &self.bounds) {
+        } else if stores_with(&self.fields, u64::from(self.field), &self.bounds) {
             None
         } else if self.bounds.top < u128::from(self.bounds.base) {
             Some(Defect::TopBelowBase)
