@@ -1,14 +1,14 @@
 -- The contents of a `Set`: the exponent and the fields of a sound span.
-use Rattle.std.proofs.Common.{refl, subst, ◌≡◌, ℕ, ◌+◌, ◌-◌, ◌*◌, ◌<◌, ◌≤◌, ◌/◌, ◌%◌, ◌^◌, sym, ◌∙◌, ap, arith, inl, inr, nat_lt, bit_and}
+use Rattle.std.proofs.Common.{subst, ◌≡◌, ℕ, ◌+◌, ◌-◌, ◌*◌, ◌<◌, ◌≤◌, ◌/◌, ◌%◌, ◌^◌, sym, ◌∙◌, ap, arith, inl, inr, nat_lt, bit_and}
 use Rattle.std.proofs.Math.Nat.{div-add-mod', mul-le-mul_right, mul-add-div_right, mul-add-mod_self_right}
 use Rattle.std.proofs.lemmas.Nat.{pow_pos, pow-add, shl-shr, and_mask}
 use Rattle.std.proofs.lemmas.Bool.{cases_lt}
 use Rattle.cc_bounds.specs.declared.span.Span.{Span}
 use Rattle.cc_bounds.specs.Span.{IsSpan, length_of}
-use Rattle.cc_bounds.specs.Granule.{IsGranule, IsExponent, rounded_to, IsGranted, IsSound, exponent_of}
+use Rattle.cc_bounds.specs.Granule.{IsGranule, IsExponent, IsSound, exponent_of}
 use Rattle.cc_bounds.specs.Encoding.{ie_of, t_of, b_of, IsEncoding}
-use Rattle.cc_bounds.proofs.GranuleLemmas.{granted_same, least_same, exponent-least, power-exponent}
-use Rattle.cc_bounds.proofs.SoundLemmas.{granted-long, granted-sound}
+use Rattle.cc_bounds.proofs.GranuleLemmas.{least_same, exponent-least, power-exponent}
+use Rattle.cc_bounds.proofs.SoundLemmas.{IsSoundGrant, granted-long}
 use Rattle.cc_bounds.proofs.ComputingLemmas.{exponent_of-is, exponent-exponent_of, exponent_of-short}
 
 -- a granule is eight units of its exponent
@@ -98,56 +98,61 @@ sound-fit span is_span sound =
 -- ---- what a `Set` stores
 
 -- what is stored of a granted span, as it is computed
-pub encoded : (request granted : Span) (power e t b : ℕ) → IsSpan request → granted ≡ rounded_to (2 ^ power) request
-    → IsGranule request (2 ^ power) → (length_of request < 4096 → power ≡ 0) → (4096 ≤ length_of request → 3 ≤ power)
+pub encoded : (granted : Span) (power e t b : ℕ) → IsSpan granted → IsSound granted
+    → (length_of granted < 4096 → power ≡ 0) → (4096 ≤ length_of granted → power ≡ exponent_of granted + 3)
     → e ≡ power - 3 → t ≡ granted.top / 2 ^ e % 2 ^ 12 + e / 8 → b ≡ granted.base / 2 ^ e % 2 ^ 14 + e % 8
     → IsEncoding granted e (nat_lt 0 power) t b
-encoded request granted power e t b is_span is_rounded is_granule small large is stored_t stored_b =
-    let grant = granted-sound request granted is_span is_granted in
-    let exponent : IsExponent request e = subst (λ (n : ℕ). IsExponent request n) (sym is) (power-exponent request power is_granule small large) in
-    let own = grant.exponent e exponent in
-    let e_is : e ≡ exponent_of granted = exponent-exponent_of granted e grant.is_span own in
-    let fit = sound-fit granted grant.is_span grant.sound in
+encoded granted power e t b is_span sound small large is stored_t stored_b =
+    let fit = sound-fit granted is_span sound in
     record {
-      is_span = grant.is_span;
-      sound = grant.sound;
-      is_exponent = own;
+      is_span = is_span;
+      sound = sound;
+      is_exponent = subst (λ (n : ℕ). IsExponent granted n) (sym e_is) (exponent_of-is granted is_span);
       is_e = e_is;
       is_ie = flag;
-      is_t = t_is e_is;
-      is_b = b_is e_is;
+      is_t = t_is;
+      is_b = b_is;
       e_fits = omega (arith, e_is, fit.exponent_fits);
-      t_fits = rw (t_is e_is) fit.t_fits;
-      b_fits = rw (b_is e_is) fit.b_fits;
+      t_fits = rw t_is fit.t_fits;
+      b_fits = rw b_is fit.b_fits;
     }
   where
-    t_is : e ≡ exponent_of granted → t ≡ t_of granted
-    t_is e_is = stored_t ∙ ap (λ (n : ℕ). granted.top / 2 ^ n % 2 ^ 12 + n / 8) e_is
+    e_is : e ≡ exponent_of granted
+    e_is =
+        elim (cases_lt (length_of granted) 4096) [
+          | inl short ↦ let none = exponent_of-short granted short in let z = small short in omega (arith, is, z, none)
+          | inr long ↦ let z = large long in omega (arith, is, z)
+        ]
 
-    b_is : e ≡ exponent_of granted → b ≡ b_of granted
-    b_is e_is = stored_b ∙ ap (λ (n : ℕ). granted.base / 2 ^ n % 2 ^ 14 + n % 8) e_is
+    t_is : t ≡ t_of granted
+    t_is = stored_t ∙ ap (λ (n : ℕ). granted.top / 2 ^ n % 2 ^ 12 + n / 8) e_is
 
-    is_granted : IsGranted request granted
-    is_granted = record { granule = 2 ^ power; is_granule = is_granule; is_rounded = is_rounded }
+    b_is : b ≡ b_of granted
+    b_is = stored_b ∙ ap (λ (n : ℕ). granted.base / 2 ^ n % 2 ^ 14 + n % 8) e_is
 
     flag : nat_lt 0 power ≡ ie_of granted
     flag =
-        let grant = granted-sound request granted is_span is_granted in
-        elim (cases_lt (length_of request) 4096) [
-          | inl short ↦ let z = small short in let s = grant.as_short short in grind (arith, z, s)
-          | inr long ↦ let z = large long in let s = grant.as_long long in grind (arith, z, s)
+        elim (cases_lt (length_of granted) 4096) [
+          | inl short ↦ let z = small short in grind (arith, z, short)
+          | inr long ↦ let z = large long in grind (arith, z, long)
         ]
 
--- likewise for a sound span, which is its own granted span
-pub sound-encoded : (span : Span) (power e t b : ℕ) → IsSpan span → IsSound span
-    → IsGranule span (2 ^ power) → (length_of span < 4096 → power ≡ 0) → (4096 ≤ length_of span → 3 ≤ power)
-    → e ≡ power - 3 → t ≡ span.top / 2 ^ e % 2 ^ 12 + e / 8 → b ≡ span.base / 2 ^ e % 2 ^ 14 + e % 8
-    → IsEncoding span e (nat_lt 0 power) t b
-sound-encoded span power e t b is_span sound is_granule small large is stored_t stored_b =
-    let granted : IsGranted span (rounded_to (2 ^ power) span) =
-    record { granule = 2 ^ power; is_granule = is_granule; is_rounded = refl } in
-    let same : span ≡ rounded_to (2 ^ power) span = granted_same span span (rounded_to (2 ^ power) span) sound granted in
-    encoded span span power e t b is_span same is_granule small large is stored_t stored_b
+-- the granules of a request and of what it is granted have one power
+pub granted-power : (request granted : Span) (power : ℕ) → IsSoundGrant request granted → IsGranule request (2 ^ power)
+    → (length_of request < 4096 → power ≡ 0) → (4096 ≤ length_of request → 3 ≤ power)
+    → (length_of granted < 4096 → power ≡ 0) × (4096 ≤ length_of granted → power ≡ exponent_of granted + 3)
+granted-power request granted power grant is_granule small large =
+    let own = grant.exponent (power - 3) (power-exponent request power is_granule small large) in
+    let is = exponent-exponent_of granted (power - 3) grant.is_span own in
+    elim (cases_lt (length_of request) 4096) [
+      | inl short ↦
+          let granted_short = grant.as_short short in
+          (λ _. small short, λ long. absurd (omega (arith, long, granted_short)))
+      | inr long ↦
+          let some = large long in
+          let granted_long = grant.as_long long in
+          (λ short. absurd (omega (arith, short, granted_long)), λ _. omega (arith, is, some))
+    ]
 
 -- up to exponent 52 the twelve bits of a number from bit `exponent` up are bits of its low 64
 low_bits_shifted : (n exponent : ℕ) → exponent ≤ 52 → n % 2 ^ 64 / 2 ^ exponent % 2 ^ 12 ≡ n / 2 ^ exponent % 2 ^ 12

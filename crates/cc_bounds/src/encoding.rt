@@ -106,7 +106,8 @@ impl Set {
         requires sound { IsSound span }
         ensures { result ≡ record { granted = span; exact = true } }
     {
-        sound_encoding(span)
+        let power = granule_power(&span);
+        encoded(span, power, true)
     }
 
     /// Returns the exponent E, from 0 to 52.
@@ -224,25 +225,25 @@ pub fn stores_with(fields: &Fields, exponent: u64, bounds: &Span) -> bool
     }
 }
 
-/// Returns the encoding of a sound span.
+/// Returns the encoding of a granted span, whose granule is 2^power bytes.
 #[inline(always)]
-fn sound_encoding(span: Span) -> Set
-    requires is_span { IsSpan span }
-    requires sound { IsSound span }
-    ensures { result ≡ record { granted = span; exact = true } }
+fn encoded(granted: Span, power: u32, exact: bool) -> Set
+    requires is_span { IsSpan granted }
+    requires sound { IsSound granted }
+    requires small { length_of granted < 4096 → power ≡ 0 }
+    requires large { 4096 ≤ length_of granted → power ≡ exponent_of granted + 3 }
+    requires fits { power ≤ 55 }
+    ensures { result ≡ record { granted = granted; exact = exact } }
 {
-    let power = granule_power(&span);
     let exponent = power.saturating_sub(3);
-    let t = t_field(&span, exponent);
-    let b = b_field(&span, exponent);
     Set {
-        top: span.top,
-        base: span.base,
-        t,
-        b,
+        top: granted.top,
+        base: granted.base,
+        t: t_field(&granted, exponent),
+        b: b_field(&granted, exponent),
         exponent: exponent as u8,
         ie: power > 0,
-        exact: true,
+        exact,
     }
 }
 
@@ -276,17 +277,8 @@ fn encode(request: &Span) -> Set
     ensures exact { IsTrue result.exact ↔ IsSound request.now }
 {
     let power = granule_power(request);
-    let exponent = power.saturating_sub(3);
     let granted = rounded(request, power);
-    Set {
-        top: granted.top,
-        base: granted.base,
-        t: t_field(&granted, exponent),
-        b: b_field(&granted, exponent),
-        exponent: exponent as u8,
-        ie: power > 0,
-        exact: granted == *request,
-    }
+    encoded(granted, power, granted == *request)
 }
 
 /// Returns the encoding of the tightest bounds that cover the request [base, base + len).

@@ -1,9 +1,17 @@
-use Rattle.cc_bounds.proofs.EncodingLemmas.{encoded}
+use Rattle.std.proofs.Common.{◌^◌}
+use Rattle.cc_bounds.proofs.EncodingLemmas.{granted-power}
+use Rattle.cc_bounds.proofs.SoundLemmas.{granted-sound}
 use Rattle.cc_bounds.proofs.encoding.encode.Goals as goal
 
-pub invariant_of-result : goal.invariant_of-result
-invariant_of-result c =
-    encoded c.args.request.now c.rounded-granted.result c.granule_power-power.result c.saturating_sub-exponent.result
-    c.t_field.result c.b_field.result c.requires c.rounded-granted.ensures c.granule_power-power.ensures.granule
-    c.granule_power-power.ensures.small c.granule_power-power.ensures.large c.saturating_sub-exponent.ensures
-    c.t_field.ensures c.b_field.ensures
+pub encoded-requires : goal.encoded-requires
+encoded-requires c =
+    let request = c.args.request.now in
+    let power = c.granule_power-power.result in
+    let is = c.granule_power-power.ensures in
+    let grant = granted-sound request c.rounded-granted.result c.requires (record {
+      granule = 2 ^ power;
+      is_granule = is.granule;
+      is_rounded = c.rounded-granted.ensures;
+    }) in
+    let (small, large) = granted-power request c.rounded-granted.result power grant is.granule is.small is.large in
+    record { is_span = grant.is_span; sound = grant.sound; small = small; large = large; fits = is.fits }
