@@ -3,6 +3,8 @@ ghost use Rattle.std.specs.Prelude.{◌≡◌, ◌+◌, ◌%◌, ◌<◌};
 
 /// Returns the number of bytes from `n` to the smallest multiple of `align` that is at least `n`,
 /// without a division if `align` is a power of two.
+// not by `cc_placer::round_up`, which divides numbers of 128 bits: a search calls this for each gap that
+// is long enough
 #[inline(always)]
 pub(crate) fn padding(n: u64, align: u64) -> u64
     requires { 0 < align }

@@ -103,7 +103,13 @@ impl Heads {
         self.heads[at] = head;
         if head.bound != before {
             renew(&self.heads, &mut self.groups, at, before);
-            self.bound = bound_after(&self.heads, &self.groups, self.bound, before, head.bound);
+            self.bound = bound_of_all_after(
+                &self.heads,
+                &self.groups,
+                self.bound,
+                before,
+                head.bound,
+            );
         }
     }
 
@@ -126,7 +132,7 @@ impl Heads {
         let before = self.heads[at].bound;
         self.heads.remove(at);
         renew_from(&self.heads, &mut self.groups, at);
-        self.bound = bound_after(&self.heads, &self.groups, self.bound, before, 0);
+        self.bound = bound_of_all_after(&self.heads, &self.groups, self.bound, before, 0);
     }
 
     /// Returns the position of the first head whose last byte is at or above an address, or the
@@ -177,7 +183,7 @@ fn renew(heads: &[Head], groups: &mut [u64], at: usize, before: u64)
 /// Returns an upper bound on the bounds of all heads after a change: a head of the bound `added` was
 /// added, one of the bound `gone` removed. It is recomputed only if the largest is gone.
 #[inline(always)]
-fn bound_after(heads: &[Head], groups: &[u64], bound: u64, gone: u64, added: u64) -> u64
+fn bound_of_all_after(heads: &[Head], groups: &[u64], bound: u64, gone: u64, added: u64) -> u64
     requires grouped { length heads.now ≤ 16 * length groups.now }
     requires bounded { AreBounded heads.now groups.now }
     requires most { AreAtMost (max bound added) heads.now }

@@ -28,15 +28,19 @@ const JOINED_GAPS: usize = 48;
 // otherwise each object that is cut from a large gap would have the bound computed again
 const NEAR: u64 = 1024;
 
+/// A place in a row: a block, and a position in it. The end of a row is the position 0 of the block after
+/// the last.
+///
+/// A search returns one as a [`Hint`], which may be wrong by the time it is used. A `Place` is always one
+/// of the row.
+pub(crate) type Place = Hint;
+
 /// Gaps in the order of their addresses, in blocks of up to 64.
 ///
 /// Each block has a head: the last byte of its last gap, and an upper bound on the length of each.
 /// A search for an address takes a binary search over the heads and one in a block. A search for
 /// free space walks over the bounds of groups of 16 heads, over the heads of a group in which it may
 /// be, and over the gaps of such a block. All memory is reserved when the row is created.
-///
-/// A place in the row is a [`Hint`]: a block, and a position in it. The end of the row is the position 0
-/// of the block after the last.
 #[derive(Drop)]
 pub(crate) struct GapRow {
     /// The maximum number of gaps.
@@ -78,7 +82,7 @@ impl GapRow {
     /// Returns the place of the first gap that ends above an address, and the gap, or the end if
     /// there is none.
     #[inline(always)]
-    pub(crate) fn locate(&self, address: u64) -> (Hint, Option<Span>)
+    pub(crate) fn locate(&self, address: u64) -> (Place, Option<Span>)
         ensures place { IsPlaceIn self.now result.0 }
         ensures gap { result.1 ≡ slice_get (gaps_in self.now) (index_of self.now result.0) }
         ensures within { index_of self.now result.0 ≤ length (gaps_in self.now) }
@@ -92,7 +96,7 @@ impl GapRow {
 
     /// Returns the gap at a place, or `None` at the end.
     #[inline(always)]
-    pub(crate) fn gap(&self, place: Hint) -> Option<Span>
+    pub(crate) fn gap(&self, place: Place) -> Option<Span>
         requires { IsPlaceIn self.now place }
         ensures { result ≡ slice_get (gaps_in self.now) (index_of self.now place) }
     {
@@ -102,7 +106,7 @@ impl GapRow {
         Some(self.blocks.at(place.block).at(place.at))
     }
 
-    /// Returns whether a place has a gap.
+    /// Returns whether a hint is the place of a gap.
     #[inline(always)]
     pub(crate) fn has(&self, place: Hint) -> bool
         ensures { IsTrue result → IsPlaceIn self.now place }
@@ -112,7 +116,7 @@ impl GapRow {
 
     /// Returns the gap before a place, with its own place, or `None` if there is none.
     #[inline(always)]
-    pub(crate) fn gap_before(&self, place: Hint) -> Option<(Hint, Span)>
+    pub(crate) fn gap_before(&self, place: Place) -> Option<(Place, Span)>
         requires { IsPlaceIn self.now place }
         ensures some { IfSome result (λ found. IsPlaceIn self.now found.0
             × (index_of self.now found.0 + 1 ≡ index_of self.now place)
@@ -124,7 +128,7 @@ impl GapRow {
 
     /// Replaces the gap at a place. Each place keeps its gap.
     #[inline(always)]
-    pub(crate) fn set(&mut self, place: Hint, gap: Span)
+    pub(crate) fn set(&mut self, place: Place, gap: Span)
         requires place { IsPlaceIn self.old place }
         requires within { index_of self.old place < length (gaps_in self.old) }
         requires order { AreGaps (slice_set (gaps_in self.old) (index_of self.old place) gap) }
@@ -144,7 +148,7 @@ impl GapRow {
 
     /// Inserts a gap before the one at a place. No place stays valid.
     #[inline(always)]
-    pub(crate) fn insert(&mut self, place: Hint, gap: Span)
+    pub(crate) fn insert(&mut self, place: Place, gap: Span)
         requires place { IsPlaceIn self.old place }
         requires order { AreGaps (insert (gaps_in self.old) (index_of self.old place) gap) }
         requires room { length (gaps_in self.old) < self.old.room }
@@ -166,7 +170,7 @@ impl GapRow {
 
     /// Returns whether a place is in a block that is not full.
     #[inline(always)]
-    fn has_room_at(&self, place: Hint) -> bool
+    fn has_room_at(&self, place: Place) -> bool
         ensures within { IsTrue result → place.block < length self.now.blocks }
         ensures fewer { IsTrue result → length (slice_index_or self.now.blocks place.block []) < 64 }
     {
@@ -179,7 +183,7 @@ impl GapRow {
     /// If no further block fits, two neighbors are joined first. It is not inlined, so that the usual
     /// insertion saves fewer registers.
     #[inline(never)]
-    fn insert_apart(&mut self, place: Hint, gap: Span)
+    fn insert_apart(&mut self, place: Place, gap: Span)
         requires place { IsPlaceIn self.old place }
         requires order { AreGaps (insert (gaps_in self.old) (index_of self.old place) gap) }
         requires room { length (gaps_in self.old) < self.old.room }
@@ -209,7 +213,7 @@ impl GapRow {
 
     /// Removes the gap at a place. Each lower place keeps its gap.
     #[inline(always)]
-    pub(crate) fn remove(&mut self, place: Hint)
+    pub(crate) fn remove(&mut self, place: Place)
         requires place { IsPlaceIn self.old place }
         requires within { index_of self.old place < length (gaps_in self.old) }
         ensures gaps { gaps_in self.new ≡ remove (gaps_in self.old) (index_of self.old place) }
@@ -244,7 +248,7 @@ impl GapRow {
 /// Returns the place of the first gap that ends above an address, and the gap, or the end if there is
 /// none.
 #[inline(always)]
-fn locate_in(blocks: &GapBlocks, heads: &Heads, address: u64) -> (Hint, Option<Span>)
+fn locate_in(blocks: &GapBlocks, heads: &Heads, address: u64) -> (Place, Option<Span>)
     requires gaps { AreGaps (gaps_of blocks.now.blocks) }
     requires headed { AreHeaded blocks.now.blocks heads.now.heads }
     ensures place { IsPlaceAt blocks.now.blocks result.0.block result.0.at }
@@ -255,16 +259,16 @@ fn locate_in(blocks: &GapBlocks, heads: &Heads, address: u64) -> (Hint, Option<S
 {
     let block = heads.position(address);
     if block == heads.len() {
-        return (Hint { block, at: 0 }, None);
+        return (Place { block, at: 0 }, None);
     }
     let gaps = blocks.at(block);
     let at = gaps.position(address);
-    (Hint { block, at }, Some(gaps.at(at)))
+    (Place { block, at }, Some(gaps.at(at)))
 }
 
 /// Returns the gap before a place, with its own place, or `None` if there is none.
 #[inline(always)]
-fn gap_before_in(blocks: &GapBlocks, heads: &Heads, place: Hint) -> Option<(Hint, Span)>
+fn gap_before_in(blocks: &GapBlocks, heads: &Heads, place: Place) -> Option<(Place, Span)>
     requires headed { AreHeaded blocks.now.blocks heads.now.heads }
     requires place { IsPlaceAt blocks.now.blocks place.block place.at }
     ensures some { IfSome result (λ found. IsPlaceAt blocks.now.blocks found.0.block found.0.at
@@ -277,7 +281,7 @@ fn gap_before_in(blocks: &GapBlocks, heads: &Heads, place: Hint) -> Option<(Hint
         let block = place.block;
         let at = place.at - 1;
         let gap = blocks.at(block).at(at);
-        return Some((Hint { block, at }, gap));
+        return Some((Place { block, at }, gap));
     }
     if place.block == 0 {
         return None;
@@ -285,7 +289,7 @@ fn gap_before_in(blocks: &GapBlocks, heads: &Heads, place: Hint) -> Option<(Hint
     let block = place.block - 1;
     let gaps = blocks.at(block);
     let at = gaps.len() - 1;
-    Some((Hint { block, at }, gaps.at(at)))
+    Some((Place { block, at }, gaps.at(at)))
 }
 
 /// Returns the lowest start at a multiple of `align` of one byte more than `less` in a gap, and a hint

@@ -10,7 +10,7 @@ ghost use Rattle.cc_machine.specs.Gaps.{AreGaps};
 ghost use Rattle.cc_machine.specs.FreeSpace.{AddsBytes, LiesInGap};
 ghost use Rattle.cc_machine.specs.GapRowState.{IsPlaceIn, gaps_in, index_of};
 
-use crate::gap_row::GapRow;
+use crate::gap_row::{GapRow, Place};
 use cc_bounds::Span;
 use cc_placer::{Hint, Placer};
 use std::alloc::{AllocError, Global};
@@ -130,7 +130,7 @@ fn take(row: &mut GapRow, span: Span, near: Hint)
 /// Returns the place of the gap around a span, and the gap. It is not searched for if it is at the
 /// place `near`.
 #[inline(always)]
-fn gap_around(row: &GapRow, span: Span, near: Hint) -> (Hint, Span)
+fn gap_around(row: &GapRow, span: Span, near: Hint) -> (Place, Span)
     requires gaps { AreGaps (gaps_in row.now) }
     requires some { span.base < span.top }
     requires lies { LiesInGap (gaps_in row.now) span }
@@ -206,7 +206,7 @@ fn top_from(gap: Option<Span>, base: u128) -> Option<u128>
 
 /// Returns the gap before a place, if it ends at `top`: its place and its base.
 #[inline(always)]
-fn gap_up_to(row: &GapRow, place: Hint, top: u128) -> Option<(Hint, u64)>
+fn gap_up_to(row: &GapRow, place: Place, top: u128) -> Option<(Place, u64)>
     requires { IsPlaceIn row.now place }
     ensures some { IfSome result (λ found. IsPlaceIn row.now found.0
         × (index_of row.now found.0 + 1 ≡ index_of row.now place)
