@@ -245,6 +245,9 @@ impl GapRow {
     }
 }
 
+// Most functions below have the blocks and the heads of a row as parameters, and not the row: their
+// contracts speak of the heads, which the value of a row does not have.
+
 /// Returns the place of the first gap that ends above an address, and the gap, or the end if there is
 /// none.
 #[inline(always)]

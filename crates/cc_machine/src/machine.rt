@@ -27,6 +27,7 @@ use std::marker::Model;
 /// revoked if and only if that object was swept.
 #[derive(Drop)]
 pub struct Machine {
+    /// The maximum number of slots, and the planner's maximum number of objects.
     limit: u32,
     slots: Vec<Slot>,
     /// The slot of the pool.
@@ -276,6 +277,7 @@ impl Machine {
         if number == self.limit {
             return Reply::Refused(Refusal::Full);
         }
+        // a derivation returns a capability alone, so the slot that it read and its object are read again
         let owner = self.slots[parent as usize].owner;
         let slot = Slot {
             capability,
