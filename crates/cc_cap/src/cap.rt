@@ -496,7 +496,7 @@ impl Cap {
     }
 }
 
-/// Returns whether no reserved bit of the word is set, and its type is unsealed, by one test.
+/// Returns whether no reserved bit of the word is set, and its type is unsealed.
 ///
 /// A word has its type inverted, so the bits of both are then zero. The flag is between them.
 fn is_plain(word: u128) -> bool
