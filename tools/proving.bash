@@ -256,11 +256,11 @@ is_ready() {
 }
 
 # Begins the proofs for which there are slots, first of the crates with the longest chain above. If fewer crates are ready than there
-# are slots, they share these, the first of them with the larger share; but a crate with a shorter chain than one that still waits has
-# one job, since a job more costs CPU time. Of more than two slots, the crate that begins last takes two even if one is free: the
+# are slots, they share these, the first of them with the larger share. A crate with a shorter chain than one that still waits has one
+# job, even if a slot stays free: a second job costs CPU time, and the slot is for the crate that waits. Of more than two slots, the crate that begins last takes two even if one is free: the
 # proofs next to it end before it, and then only the program is left.
 begin_ready() {
-  local name ready=() later=() free=$slots jobs longest=0 waits=''
+  local name ready=() later=() free=$slots jobs ahead=0 waits=''
   for name in "${!running[@]}"; do free=$((free - jobs_of[$name])); done
   # a crate comes after those that it needs, so one that is above a library taken here is seen
   for name in "${left[@]}"; do
@@ -270,16 +270,16 @@ begin_ready() {
       count "$name" 'kept from an earlier proof'
     else
       ready+=("$name")
-      [[ -n $waits ]] || longest=${#ready[@]}
+      [[ -n $waits ]] || ahead=${#ready[@]}
     fi
   done
   while ((${#ready[@]} && free > 0)); do
     name=${ready[0]} jobs=1
-    ((longest <= 0)) || jobs=$(((free + ${#ready[@]} - 1) / ${#ready[@]}))
+    ((ahead <= 0)) || jobs=$(((free + ${#ready[@]} - 1) / ${#ready[@]}))
     ((jobs <= MOST_JOBS)) || jobs=$MOST_JOBS
     ((${#left[@]} > 1 || jobs > 1 || slots <= 2)) || jobs=2
     begin prove_crate "$name" "$jobs"
-    running[$name]=$! jobs_of[$name]=$jobs free=$((free - jobs)) longest=$((longest - 1)) ready=("${ready[@]:1}")
+    running[$name]=$! jobs_of[$name]=$jobs free=$((free - jobs)) ahead=$((ahead - 1)) ready=("${ready[@]:1}")
   done
   for name in "${left[@]}"; do [[ -n ${given[$name]-}${running[$name]-} ]] || later+=("$name"); done
   left=("${later[@]}")

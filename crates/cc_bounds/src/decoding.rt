@@ -162,7 +162,7 @@ pub(crate) fn large_stores(fields: &Fields, exponent: u64) -> bool
 
 /// Returns the bounds of a word, as [`decode`] does, from its exponent field.
 ///
-/// Requires: `exponent` is the [`exponent_field`] of the fields.
+/// Requires: `exponent` is the [`exponent_field`] of the fields, or any number from 52 up if that is 52 or more.
 #[inline(always)]
 pub fn decode_with(fields: &Fields, exponent: u64) -> Span
     requires { stored_exponent fields.now ≡ min 52 exponent }

@@ -67,6 +67,7 @@ pub extern "C" fn cheri_cap_increment(high: u64, low: u64, amount: u64) -> MadeW
 ///
 /// Errors, in order: `NotCanonical`; `Sealed`; `OutOfBounds`.
 /// Instruction: CSetBounds.
+// C has one namespace, and the name without `_on` belongs to `set_bounds` of cc_bounds, the request alone.
 // inlined, since the loop of c_memory calls it for each word
 #[inline(always)]
 #[unsafe(no_mangle)]

@@ -1,6 +1,6 @@
-//! The library's functions for C, which `include/cheri_cap.h` declares. A scalar export forwards to one
-//! function of the crates below, with a number of 128 bits as two halves, a batch function does so for
-//! each element, and the search is defined here.
+//! The library's functions for C, which `include/cheri_cap.h` declares. A scalar export forwards to
+//! functions of the crates below, mostly to one, with a number of 128 bits as two halves, a batch function
+//! does so for each element, and the search is defined here.
 //!
 //! Each function is total, and has no `requires`. Two conditions are up to the caller in C: the
 //! pointers of the functions on strings, of the batch functions and of the search are valid for the

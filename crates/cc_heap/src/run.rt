@@ -75,7 +75,8 @@ impl<P: Placer> Run<P> {
         &self.heap
     }
 
-    /// Forgets the peaks of bytes of the heap, so that those after an event are of that event alone.
+    /// Forgets the peaks of bytes of the heap, so that those after an event are of that event alone. The heap itself
+    /// cannot be changed through a run, which would not count its events.
     pub fn forget_peaks(&mut self)
         ensures { self.new ≡ record self.old { heap = without_peaks self.old.heap } }
     {

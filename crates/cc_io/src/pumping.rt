@@ -31,6 +31,8 @@ const PIECE: usize = 16384;
 /// gave are then written, and the answerer has taken these entries alone. `Write` if and only if
 /// the sink failed. It has then taken a prefix of the output. The answerer may be ahead of the sink
 /// by the entries whose replies fit on one page.
+///
+/// The page is not cleared after the last reply.
 pub fn pump<F: Framing, A: Answerer<N>, R: Source, W: Sink, const N: usize>(
     framing: &F,
     answerer: &mut A,

@@ -21,8 +21,7 @@ pub(crate) const MOST_GAPS: usize = 64;
 pub(crate) const HALF: usize = 32;
 
 /// A gap of one or more bytes, in 16 bytes: the address of its first byte, and the number of its
-/// bytes except one, which is all that a search reads of a gap that is too short. Without that one,
-/// 2^64 bytes fit too.
+/// bytes less one, so that 2^64 bytes fit. Of a gap that is too short a search reads only that number.
 #[derive(Clone, Copy, Default)]
 struct Gap {
     base: u64,

@@ -30,7 +30,7 @@ pub(crate) struct Heads {
     groups: Vec<u64>,
     /// An upper bound on the bounds of all heads.
     bound: u64,
-    /// The maximum number of heads.
+    /// The maximum number of heads, for the contract alone.
     room: usize,
 }
 

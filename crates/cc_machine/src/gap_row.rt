@@ -31,8 +31,8 @@ const NEAR: u64 = 1024;
 /// A place in a row: a block, and a position in it. The end of a row is the position 0 of the block after
 /// the last.
 ///
-/// A search returns one as a [`Hint`], which may be wrong by the time it is used. A `Place` is always one
-/// of the row.
+/// A search returns one as a [`Hint`], which may be wrong by the time it is used. The functions below
+/// require that a `Place` is one of the row.
 pub(crate) type Place = Hint;
 
 /// Gaps in the order of their addresses, in blocks of up to 64.
@@ -43,7 +43,7 @@ pub(crate) type Place = Hint;
 /// be, and over the gaps of such a block. All memory is reserved when the row is created.
 #[derive(Drop)]
 pub(crate) struct GapRow {
-    /// The maximum number of gaps.
+    /// The maximum number of gaps, for the contract alone.
     room: u32,
     blocks: GapBlocks,
     heads: Heads,

@@ -7,8 +7,8 @@ ghost use Rattle.cc_replay.specs.Reports.{allocation, clearing, free, reallocati
 /// An object is named by its pointer. It is not 0 in the reports of the readers, except in `From` and
 /// `To`.
 ///
-/// Changes are not [`Event`](cc_heap::Event)s, which have an alignment: only `event_of`, which gives each the
-/// alignment 1, has to say that it is a power of two, and no reader has to.
+/// It is not an [`Event`](cc_heap::Event): an `Allocate` has an alignment, and each reader of a format would need a
+/// clause that this is a power of two.
 #[derive(Clone, Copy)]
 pub enum LineReport {
     /// The line reports no change.

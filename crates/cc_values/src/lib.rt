@@ -1,4 +1,5 @@
-//! The values of lines and of arguments: words, numbers, and sets of permissions.
+//! The values of lines and of arguments: numbers and sets of permissions; the operations of a machine, its replies, and
+//! its use.
 #![tactic(auto)]
 
 mod digits;

@@ -28,7 +28,7 @@ pub enum Content {
     Words,
     /// A trace. A notice shows how much of it has been read.
     Trace,
-    /// A trace whose script is written. The script itself shows how far it is.
+    /// A trace whose script is written. No notice is shown.
     TraceForScript,
 }
 

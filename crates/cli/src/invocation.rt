@@ -82,7 +82,8 @@ pub struct ReplayValues<'a> {
     pub pool: Option<&'a str>,
     /// The name of the trace's format.
     pub format: Option<&'a str>,
-    /// The output; `None` if two of `--sizes`, `--svg`, `--script` and `--each` are given.
+    /// The output; `None` if two of `--sizes`, `--svg`, `--script` and `--each` are given, which cli_replay refuses
+    /// with the other values of `replay`.
     pub output: Option<ReplayOutput<'a>>,
 }
 

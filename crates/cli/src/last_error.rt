@@ -12,7 +12,8 @@ const EPIPE: i32 = 32;
 
 /// The last error of a device of the process, and the file that is read.
 ///
-/// No clause says what is in it. `tests/program` shows what is printed.
+/// A [`Fault`] has no code of the system: contracts compare it, and none says which code an error has. So the code does
+/// not pass through the results of devices. No clause says what is in it. `tests/program` shows what is printed.
 #[derive(Drop)]
 pub struct LastError {
     is_terminal: bool,
@@ -21,7 +22,7 @@ pub struct LastError {
 }
 
 impl LastError {
-    /// Creates one without an error. Only if standard error is a terminal, anything is printed.
+    /// Creates a value without an error. Only if standard error is a terminal, anything is printed.
     pub fn new(is_terminal: bool) -> LastError {
         LastError {
             is_terminal,

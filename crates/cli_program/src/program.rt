@@ -75,7 +75,7 @@ fn answer_strings<R: AllocGlobal + Files + Input + Print + Eprint, M: RunMemory 
 ) -> Ending
     requires { M.has_failed memory.old ≡ false }
 {
-    // clap reads borrowed texts
+    // borrowed, so that `ask_for_help` can put another text in place of one without an allocation
     let words: Result<Vec<&str>, AllocError> = arguments
         .iter()
         .map(|argument| argument.as_str())

@@ -71,8 +71,8 @@ fn answer<W: Sink, E: Sink>(
     }
 }
 
-/// Writes the listing of a word, or its row in a format. If the listing refuses a word for the `0x` before it, then
-/// writes the hint that says so.
+/// Writes the listing of a word, or its row in a format. If hints are given, and the listing refuses a word for the
+/// `0x` before it, then writes the hint that says so.
 fn show<W: Sink, E: Sink>(
     word: &str,
     format: Option<Format>,
