@@ -10,7 +10,7 @@ use Rattle.clap.specs.declared.error.Error.{Error}
 use Rattle.clap.specs.declared.error.kind.ErrorKind.{ErrorKind}
 use Rattle.clap.specs.declared.error.kind.ErrorKind.TheVariants.{OutOfMemory}
 use Rattle.cc_values.specs.Values.{address_in, permissions_in}
-use Rattle.cli.specs.Invocation.{choice_mistake, choice_mistake_in, faults_of, is_taken, kinds_in, has_other_input, is_on, is_read, list_mistake, search_mistake, search_mistake_of, value_mistake}
+use Rattle.cli.specs.Invocation.{choice_mistake, choice_mistake_in, mistakes_of, is_taken, kinds_in, has_other_input, is_on, is_read, list_mistake, search_mistake, search_mistake_of, value_mistake}
 
 -- ---- the values of `explain`
 
@@ -102,12 +102,12 @@ first_kind [] second e (inr among) = absurd among
 first_kind (k ∷ ks) second e has = has
 
 -- An error of clap's is one of the program's.
-pub clap_fails : (app : App) (words : List Text) (e : Error) → HasKind (fault_of app words) e → HasKind (faults_of app words) e
+pub clap_fails : (app : App) (words : List Text) (e : Error) → HasKind (fault_of app words) e → HasKind (mistakes_of app words) e
 clap_fails app words e has = first_kind (fault_of app words) (kinds_in (choice_mistake_in (subcommand_of app words))) e has
 
 -- If clap has no error, the values of `explain` decide.
 pub choice_fails : {T : Type 0} (app : App) (words : List Text) (r : Result T Error) → fault_of app words ≡ []
-    → FailsBy (kinds_in (choice_mistake_in (subcommand_of app words))) r → FailsBy (faults_of app words) r
+    → FailsBy (kinds_in (choice_mistake_in (subcommand_of app words))) r → FailsBy (mistakes_of app words) r
 choice_fails app words r faultless told =
     subst (λ (kinds : Kinds). FailsBy (or_else kinds (kinds_in (choice_mistake_in (subcommand_of app words)))) r) (sym faultless) told
 

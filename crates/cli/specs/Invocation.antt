@@ -305,8 +305,8 @@ kinds_in None = []
 kinds_in (Some kind) = kind ∷ []
 
 -- The kinds of error that the arguments can give: clap's, or that of the values if clap has none.
-abbrev pub faults_of : App → List Text → Kinds
-faults_of app words = or_else (fault_of app words) (kinds_in (choice_mistake_in (subcommand_of app words)))
+abbrev pub mistakes_of : App → List Text → Kinds
+mistakes_of app words = or_else (fault_of app words) (kinds_in (choice_mistake_in (subcommand_of app words)))
 
 -- ---- the values that a command needs
 

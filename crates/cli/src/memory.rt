@@ -3,7 +3,7 @@ ghost use Rattle.std.specs.Prelude.{◌≡◌, ◌⊎◌, ◌↔◌, Bool, Err, 
 ghost use Rattle.clap.specs.Walk.{texts};
 ghost use Rattle.clap.specs.Words.{App, FailsBy, kind_of, subcommand_of};
 ghost use Rattle.cli.specs.Devices.{GivesAll};
-ghost use Rattle.cli.specs.Invocation.{IsInvocation, IsProgram, faults_of, is_taken};
+ghost use Rattle.cli.specs.Invocation.{IsInvocation, IsProgram, is_taken, mistakes_of};
 
 use crate::fault::Fault;
 use crate::invocation::Invocation;
@@ -31,7 +31,7 @@ pub trait Memory {
         ensures refused { IfErr result (λ error.
             (app : App) × IsProgram app × (is_taken app (texts words.now) ≡ true
             → kind_of error ≡ ErrorKind.OutOfMemory)) }
-        ensures kinds { (app : App) × IsProgram app × FailsBy (faults_of app (texts words.now)) result }
+        ensures kinds { (app : App) × IsProgram app × FailsBy (mistakes_of app (texts words.now)) result }
         ensures fails { MatchResult result (λ invocation. Self.has_failed self.new ≡ false)
             (λ error. (kind_of error ≡ ErrorKind.OutOfMemory) ↔ (Self.has_failed self.new ≡ true)) };
 

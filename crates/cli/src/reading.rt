@@ -5,8 +5,8 @@ ghost use Rattle.clap.specs.Words.{App, FailsBy, first_of, found_of, kind_of, ro
 ghost use Rattle.clap.specs.Words.{subcommand_rows_of};
 ghost use Rattle.cli.specs.Invocation.{HasChoice, HasItsTexts, HasLimit, HasPoolTexts, HasText, HasValues, HasWanted};
 ghost use Rattle.cli.specs.Invocation.{IsInvocation, IsProgram, align_named, choice_mistake_in, choice_mistake_of};
-ghost use Rattle.cli.specs.Invocation.{command_name_of, faults_of, format_named, has_other_input};
-ghost use Rattle.cli.specs.Invocation.{input_named, is_taken, kinds_in, list_mistake_of, named_mistake};
+ghost use Rattle.cli.specs.Invocation.{command_name_of, format_named, has_other_input};
+ghost use Rattle.cli.specs.Invocation.{input_named, is_taken, kinds_in, list_mistake_of, mistakes_of, named_mistake};
 ghost use Rattle.cli.specs.Invocation.{search_mistake_of, show_mistake_of, summary_named, value_mistake};
 
 use crate::commands::program;
@@ -32,7 +32,7 @@ pub fn read_words<'a>(alloc: Global, words: &'a [&'a str]) -> Result<Invocation<
         × IsInvocation (subcommand_of app (texts words.now)) invocation) }
     ensures refused { IfErr result (λ error.
         (app : App) × IsProgram app × (is_taken app (texts words.now) ≡ true → kind_of error ≡ ErrorKind.OutOfMemory)) }
-    ensures kinds { (app : App) × IsProgram app × FailsBy (faults_of app (texts words.now)) result }
+    ensures kinds { (app : App) × IsProgram app × FailsBy (mistakes_of app (texts words.now)) result }
 {
     // by `match`, since clauses speak of the error too, and `?` would convert it
     match parse_words(alloc, words) {
@@ -48,7 +48,7 @@ fn parse_words<'a>(alloc: Global, words: &'a [&'a str]) -> Result<ArgMatches<'a>
         × HasItsTexts (subcommand_rows_of matches)) }
     ensures refused { IfErr result (λ error.
         (app : App) × IsProgram app × (is_taken app (texts words.now) ≡ true → kind_of error ≡ ErrorKind.OutOfMemory)) }
-    ensures kinds { (app : App) × IsProgram app × FailsBy (faults_of app (texts words.now)) result }
+    ensures kinds { (app : App) × IsProgram app × FailsBy (mistakes_of app (texts words.now)) result }
 {
     let command = program(alloc, aligns(), formats(), orders(), summaries())?;
     match command.try_get_matches_from(words) {

@@ -5,7 +5,7 @@ use Rattle.clap.specs.Words.{App, HasKind, Kinds, Row, Text, kind_of, subcommand
 use Rattle.clap.specs.declared.error.Error.{Error}
 use Rattle.clap.specs.declared.error.kind.ErrorKind.{ErrorKind}
 use Rattle.clap.specs.declared.error.kind.ErrorKind.TheVariants.{OutOfMemory, ValueValidation}
-use Rattle.cli.specs.Invocation.{IsInvocation, IsProgram, faults_of, kinds_in, value_mistake}
+use Rattle.cli.specs.Invocation.{IsInvocation, IsProgram, mistakes_of, kinds_in, value_mistake}
 use Rattle.cli.specs.declared.invocation.Invocation.{Invocation}
 use Rattle.cli.specs.declared.invocation.Invocation.TheVariants.{Annotate, Ask, Decode, DecodeCore, Map, Plan, Replay, RoundList, Run}
 use Rattle.cli_program.specs.Execution.{ReplayCommand}
@@ -45,11 +45,11 @@ only_replay replay found told = go told.0 told.1 told.2
 
 -- The end by one kind of end is that by another.
 pub ends_by_other : (replay : ReplayCommand) (words : List Text) (P Q : Kinds → Type 0) → ((kinds : Kinds) → P kinds → Q kinds) → EndsByArguments replay words P → EndsByArguments replay words Q
-ends_by_other replay words P Q f (inl told) = inl (told.0, told.1, f (faults_of told.0 words) told.2)
+ends_by_other replay words P Q f (inl told) = inl (told.0, told.1, f (mistakes_of told.0 words) told.2)
 ends_by_other replay words P Q f (inr told) = inr (told.0, f (ValueValidation ∷ []) told.1)
 
 -- The error of the texts of a command that clap found is one that the arguments can give.
-pub texts_fail : (replay : ReplayCommand) (words : List Text) (invocation : Invocation) (e : Error) → (app : App) × IsProgram app × (faults_of app words ≡ [])
+pub texts_fail : (replay : ReplayCommand) (words : List Text) (invocation : Invocation) (e : Error) → (app : App) × IsProgram app × (mistakes_of app words ≡ [])
     → (app : App) × IsProgram app × IsInvocation (subcommand_of app words) invocation → HasKind (kinds_in (value_mistake (has_good_texts replay invocation))) e
     → EndsByArguments replay words (λ kinds. HasKind kinds e)
 texts_fail replay words invocation e taken found told = go (refused_or_memory (has_good_texts replay invocation) e told)

@@ -1,4 +1,4 @@
--- The report of a run is its summary and its hints, written one after the other.
+-- The report of a run is its statistics and its hints, written one after the other.
 use Rattle.std.proofs.Common.{◌≡◌, ◌↔◌, ℕ, Bool, true, false, List, [], Option, Result, Ok, Err, IsErr, OnOk, ◌++◌, refl, sym, subst, ◌∙◌, is_err}
 use Rattle.std.proofs.KnownBytes.{Appends-trans}
 use Rattle.std.specs.Io.KnownBytes.{Appends}
@@ -9,7 +9,7 @@ use Rattle.cc_script.specs.declared.session.Session.{Session}
 use Rattle.cli_program.specs.Statistics.{statistics_text}
 use Rattle.cc_syntax.specs.Tally.{Exchange}
 use Rattle.cc_values.specs.declared.usage.Usage.{Usage}
-use Rattle.cli_program.specs.Report.{IsMachineUsage, IsSummary, WritesReport, hints_given}
+use Rattle.cli_program.specs.Report.{IsMachineUsage, IsStatistics, WritesReport, hints_given}
 use Rattle.cli_program.specs.declared.report.Report.{Report}
 
 -- A claim on a successful result holds if the device did not fail.
@@ -22,16 +22,16 @@ pub of_answered : {A E : Type 0} → (result : Result A E) (P : Type 0) → is_e
 of_answered (Ok value) P answered holds = holds
 of_answered (Err error) P answered holds = absurd (false≢true (sym answered))
 
--- A summary that is requested.
-pub asked_summary : (asked : Bool) (session : Session) (usage : Usage) → asked ≡ true → IsMachineUsage session.machine.now usage
-    → IsSummary asked session (statistics_text usage session.tally)
-asked_summary false session usage is_asked is_usage = absurd (false≢true is_asked)
-asked_summary true session usage is_asked is_usage = (usage, is_usage, refl)
+-- Statistics that are requested.
+pub asked_statistics : (asked : Bool) (session : Session) (usage : Usage) → asked ≡ true → IsMachineUsage session.machine.now usage
+    → IsStatistics asked session (statistics_text usage session.tally)
+asked_statistics false session usage is_asked is_usage = absurd (false≢true is_asked)
+asked_statistics true session usage is_asked is_usage = (usage, is_usage, refl)
 
--- No summary if none is requested.
-pub no_summary : (asked : Bool) (session : Session) → asked ≡ false → IsSummary asked session []
-no_summary false session not_asked = refl
-no_summary true session not_asked = absurd (false≢true (sym not_asked))
+-- No statistics if none are requested.
+pub no_statistics : (asked : Bool) (session : Session) → asked ≡ false → IsStatistics asked session []
+no_statistics false session not_asked = refl
+no_statistics true session not_asked = absurd (false≢true (sym not_asked))
 
 -- Hints that are given.
 pub given_hints : (given : Bool) (opening : List Reply) (exchanges : List Exchange) (pool : Option ℕ) → given ≡ true
@@ -44,12 +44,12 @@ pub no_hints : (given : Bool) (opening : List Reply) (exchanges : List Exchange)
 no_hints false opening exchanges pool not_given = refl
 no_hints true opening exchanges pool not_given = absurd (false≢true (sym not_given))
 
--- The summary is written, and then the hints.
-pub tells : (report : Report) (session : Session) (opening : List Reply) (exchanges : List Exchange) (pool : Option ℕ) (t m u : Option (List ℕ)) (summary hints : List ℕ)
-    → IsSummary report.stats session summary → hints ≡ hints_given report.hints opening exchanges pool → Appends t m summary → Appends m u hints
+-- The statistics are written, and then the hints.
+pub tells : (report : Report) (session : Session) (opening : List Reply) (exchanges : List Exchange) (pool : Option ℕ) (t m u : Option (List ℕ)) (statistics hints : List ℕ)
+    → IsStatistics report.stats session statistics → hints ≡ hints_given report.hints opening exchanges pool → Appends t m statistics → Appends m u hints
     → WritesReport report session opening exchanges pool t u
-tells report session opening exchanges pool t m u summary hints is_summary are_hints first second = record {
-  summary = summary;
-  is_summary = is_summary;
-  written = subst (λ (l : List ℕ). Appends t u (summary ++ l)) are_hints (Appends-trans t m u summary hints first second);
+tells report session opening exchanges pool t m u statistics hints is_statistics are_hints first second = record {
+  statistics = statistics;
+  is_statistics = is_statistics;
+  written = subst (λ (l : List ℕ). Appends t u (statistics ++ l)) are_hints (Appends-trans t m u statistics hints first second);
 }

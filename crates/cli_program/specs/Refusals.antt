@@ -2,7 +2,7 @@
 use Rattle.std.specs.Prelude.{◌≡◌, ◌⊎◌, ◌∷◌, Bool, List, Option, Some, [], codes, false, true}
 use Rattle.clap.specs.Words.{App, Kinds, Row, Text, subcommand_of}
 use Rattle.clap.specs.declared.error.kind.ErrorKind.TheVariants.{ValueValidation}
-use Rattle.cli.specs.Invocation.{IsInvocation, IsProgram, faults_of}
+use Rattle.cli.specs.Invocation.{IsInvocation, IsProgram, mistakes_of}
 use Rattle.cli.specs.declared.invocation.Invocation.{Invocation}
 use Rattle.cli.specs.declared.invocation.Invocation.TheVariants.{Replay}
 use Rattle.cli_program.specs.Execution.{ReplayCommand}
@@ -22,11 +22,11 @@ FindsReplay found = (rows : List Row) × (found ≡ Some (codes "replay", rows))
 
 -- RefusesTexts holds if clap accepts the arguments, and finds a command whose texts are refused.
 pub record RefusesTexts (replay : ReplayCommand) (words : List Text) : Type 0 where
-  pub taken : (app : App) × IsProgram app × (faults_of app words ≡ [])
+  pub taken : (app : App) × IsProgram app × (mistakes_of app words ≡ [])
   pub refused : (app : App) × IsProgram app × FindsTexts replay false (subcommand_of app words)
 
 -- EndsByArguments holds if the arguments end so by their kinds of error: clap's, or that of a value if clap has none and the texts are
 -- refused.
 abbrev pub EndsByArguments : ReplayCommand → List Text → (EndsBy : Kinds → Type 0) → Type 0
 EndsByArguments replay words EndsBy =
-    ((app : App) × IsProgram app × EndsBy (faults_of app words)) ⊎ (RefusesTexts replay words × EndsBy (ValueValidation ∷ []))
+    ((app : App) × IsProgram app × EndsBy (mistakes_of app words)) ⊎ (RefusesTexts replay words × EndsBy (ValueValidation ∷ []))

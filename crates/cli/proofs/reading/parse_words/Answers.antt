@@ -7,7 +7,7 @@ use Rattle.clap.specs.Walk.{Row, Text, texts}
 use Rattle.clap.specs.Words.{App, FailsBy, HasKind, is_simple, kind_of, subcommand_of, subcommand_rows_of, takes}
 use Rattle.clap.specs.declared.error.Error.{Error}
 use Rattle.clap.specs.declared.error.kind.ErrorKind.TheVariants.{OutOfMemory}
-use Rattle.cli.specs.Invocation.{HasItsTexts, IsProgram, choice_mistake_in, faults_of, format_names, is_taken, kinds_in, order_names, program, summary_names}
+use Rattle.cli.specs.Invocation.{HasItsTexts, IsProgram, choice_mistake_in, mistakes_of, format_names, is_taken, kinds_in, order_names, program, summary_names}
 use Rattle.cli.proofs.ChoiceLemmas.{choice_fails, choice_refuses, clap_fails, taken_parts}
 use Rattle.cli.proofs.InvocationLemmas.{found}
 use Rattle.cli.proofs.reading.parse_words.Goals as goal
@@ -101,4 +101,4 @@ returns-in_err-command-clause-kinds c =
     let app : App = program c.aligns.result c.formats.result c.orders.result c.summaries.result in
     let is_program = is_program_of c.aligns.result c.formats.result c.orders.result c.summaries.result c.aligns.ensures c.formats.ensures c.orders.ensures c.summaries.ensures in
     let told = err_from_is_err_and c.from_residual.result c.from_residual.ensures.1 in
-    (app, is_program, subst (λ r. FailsBy (faults_of app words) r) (sym told.1) (inl told.2))
+    (app, is_program, subst (λ r. FailsBy (mistakes_of app words) r) (sym told.1) (inl told.2))
