@@ -257,8 +257,8 @@ is_ready() {
 
 # Begins the proofs for which there are slots, first of the crates with the longest chain above. If fewer crates are ready than there
 # are slots, they share these, the first of them with the larger share. A crate with a shorter chain than one that still waits has one
-# job, even if a slot stays free: a second job costs CPU time, and the slot is for the crate that waits. Of more than two slots, the crate that begins last takes two even if one is free: the
-# proofs next to it end before it, and then only the program is left.
+# job, even if a slot stays free: a second job costs CPU time, and the slot is for the crate that waits. Of more than two slots, the
+# crate that begins last takes two even if one is free: the proofs next to it end before it, and then only the program is left.
 begin_ready() {
   local name ready=() later=() free=$slots jobs ahead=0 waits=''
   for name in "${!running[@]}"; do free=$((free - jobs_of[$name])); done
