@@ -1,17 +1,4 @@
-mod DigitLemmas
-mod EntryLemmas
-mod AnswerLemmas
-mod PartLemmas
-mod ListLemmas
-mod CoreLemmas
-pub mod SkipLemmas
-mod RunLemmas
-mod AnnotateLemmas
-mod AnnotatorLemmas
-mod AnnotatedLemmas
 pub mod CorrectionLemmas
 pub mod StepLemmas
 mod RequestLemmas
 mod TextLemmas
-mod RightsLemmas
-mod RowLemmas

@@ -8,10 +8,10 @@ use Rattle.cc_io.specs.Answers.{Answer, answers_text}
 use Rattle.cc_io.specs.declared.input_form.InputForm.{InputForm}
 use Rattle.cc_io.specs.declared.input_form.InputForm.TheVariants.{Lines}
 use Rattle.cc_draw.specs.Usage.{largest_of}
-use Rattle.cc_explain.specs.declared.options.Options.{Options}
-use Rattle.cc_explain.specs.Input.{input_entries, left_of}
-use Rattle.cc_explain.specs.Output.{AreAnswers, IsEnding}
-use Rattle.cc_explain.specs.Place.{options_after}
+use Rattle.cc_decode.specs.declared.options.Options.{Options}
+use Rattle.cc_decode.specs.Input.{input_entries, left_of}
+use Rattle.cc_decode.specs.Output.{AreAnswers, IsEnding}
+use Rattle.cc_decode.specs.Place.{options_after}
 use Rattle.cc_laws.specs.DrawnObjects.{AreHoles, CountsFreeBytes, IsDrawnExactly, IsFree}
 use Rattle.cc_laws.specs.ListingParts.{AreListingRows, RowsInParts}
 

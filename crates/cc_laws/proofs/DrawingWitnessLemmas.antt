@@ -11,12 +11,12 @@ use Rattle.cc_bounds.specs.Span.{length_of}
 use Rattle.cc_plan.specs.Plan.{Plan, plan_bytes, plan_spans, is_freed}
 use Rattle.cc_draw.specs.Usage.{IsUsage, asked_bytes_of, largest_of, highest_top, holes, is_swept, pool_span}
 use Rattle.cc_plan.specs.PlannerState.{is_live}
-use Rattle.cc_explain.specs.declared.options.Search.{Search}
-use Rattle.cc_explain.specs.declared.options.Tags.{Tags}
-use Rattle.cc_explain.specs.Correct.{WritesListing}
-use Rattle.cc_explain.specs.Input.{IsWordEntry}
-use Rattle.cc_explain.specs.Output.{refused_text}
-use Rattle.cc_explain.specs.Place.{header_of}
+use Rattle.cc_decode.specs.declared.options.Search.{Search}
+use Rattle.cc_decode.specs.declared.options.Tags.{Tags}
+use Rattle.cc_decode.specs.Correct.{WritesListing}
+use Rattle.cc_decode.specs.Input.{IsWordEntry}
+use Rattle.cc_decode.specs.Output.{refused_text}
+use Rattle.cc_decode.specs.Place.{header_of}
 use Rattle.cc_laws.specs.DrawnObjects.{ArePlaced}
 use Rattle.cc_laws.specs.Witnesses.{with_first_object}
 use Rattle.cc_laws.proofs.PlacedLemmas.{are_placed}

@@ -12,14 +12,14 @@ use Rattle.cc_word.specs.declared.refusal.Refusal.TheVariants.{Unfinished}
 use Rattle.cc_io.specs.Text.{with_line_feed}
 use Rattle.cc_io.specs.Answers.{Answer, answers_text}
 use Rattle.cc_cap.specs.WordTelling.{TellsWord}
-use Rattle.cc_explain.specs.Correct.{WritesListing}
-use Rattle.cc_explain.specs.Input.{input_entries, left_of, word_of_entry}
-use Rattle.cc_explain.specs.Output.{IsAnswer, IsEnding, IsLastRow, IsRowLine, IsWordAnswer, AreAnswers, refusal_line}
-use Rattle.cc_explain.specs.Place.{after_entry, header_of, options_after, place_text}
-use Rattle.cc_explain.specs.Row.{IsWordRow, columns_text, csv_text, fixed_text, json_text}
+use Rattle.cc_decode.specs.Correct.{WritesListing}
+use Rattle.cc_decode.specs.Input.{input_entries, left_of, word_of_entry}
+use Rattle.cc_decode.specs.Output.{IsAnswer, IsEnding, IsLastRow, IsRowLine, IsWordAnswer, AreAnswers, refusal_line}
+use Rattle.cc_decode.specs.Place.{after_entry, header_of, options_after, place_text}
+use Rattle.cc_decode.specs.Row.{IsWordRow, columns_text, csv_text, fixed_text, json_text}
 use Rattle.cc_io.specs.declared.format.Format.{Format}
 use Rattle.cc_io.specs.declared.format.Format.TheVariants.{Columns, Csv, Fixed, Json, Text}
-use Rattle.cc_explain.specs.declared.options.Options.{Options}
+use Rattle.cc_decode.specs.declared.options.Options.{Options}
 
 -- two tests of one fact have the same result
 same_test : {P : Type 0} (a b : Bool) → (IsTrue a ↔ P) → (IsTrue b ↔ P) → a ≡ b

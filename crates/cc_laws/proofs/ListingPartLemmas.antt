@@ -11,15 +11,15 @@ use Rattle.cc_io.specs.Blocks.{block_rest_from}
 use Rattle.cc_io.specs.Answers.{Answer, answers_text}
 use Rattle.cc_io.specs.FrameLaws.{lines_frame, blocks_frame}
 use Rattle.cc_io.specs.Frames.{IsFrame}
-use Rattle.cc_explain.specs.Correct.{WritesListing}
-use Rattle.cc_explain.specs.Input.{frame_of, input_entries, left_of}
-use Rattle.cc_explain.specs.Output.{AreAnswers, EndsListing, IsEnding}
-use Rattle.cc_explain.specs.Place.{after_entry, header_of, options_after}
+use Rattle.cc_decode.specs.Correct.{WritesListing}
+use Rattle.cc_decode.specs.Input.{frame_of, input_entries, left_of}
+use Rattle.cc_decode.specs.Output.{AreAnswers, EndsListing, IsEnding}
+use Rattle.cc_decode.specs.Place.{after_entry, header_of, options_after}
 use Rattle.cc_laws.specs.ListingParts.{AreListingRows, RowsInParts}
 use Rattle.cc_io.specs.declared.input_form.ByteOrder.{ByteOrder}
 use Rattle.cc_io.specs.declared.input_form.InputForm.{InputForm}
 use Rattle.cc_io.specs.declared.input_form.InputForm.TheVariants.{Lines, Bytes}
-use Rattle.cc_explain.specs.declared.options.Options.{Options}
+use Rattle.cc_decode.specs.declared.options.Options.{Options}
 
 -- The framing of an input form cuts parts as the whole.
 is_frame : (input : InputForm) → IsFrame (frame_of input)

@@ -2,10 +2,10 @@
 use Rattle.std.specs.Prelude.{◌≡◌, ℕ, Bool, not, ◌||◌, ◌==◌, List, ◌++◌, length}
 use Rattle.std.specs.List.{list_any}
 use Rattle.cc_io.specs.Answers.{Answer, answers_text}
-use Rattle.cc_explain.specs.Input.{input_entries, left_of}
-use Rattle.cc_explain.specs.Output.{AreAnswers, EndsListing}
-use Rattle.cc_explain.specs.Place.{options_after}
-use Rattle.cc_explain.specs.declared.options.Options.{Options}
+use Rattle.cc_decode.specs.Input.{input_entries, left_of}
+use Rattle.cc_decode.specs.Output.{AreAnswers, EndsListing}
+use Rattle.cc_decode.specs.Place.{options_after}
+use Rattle.cc_decode.specs.declared.options.Options.{Options}
 
 -- AreListingRows holds if `rows` is the listing of `text` without its header: the reply to each
 -- entry, and that to trailing bytes, if any. `any_error` says whether a reply is an error, or

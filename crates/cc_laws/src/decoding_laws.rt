@@ -1,13 +1,13 @@
 //! Laws of every input of words. The contract of each function is a law, and its body is empty.
 ghost use Rattle.std.specs.Prelude.{◌≡◌, ◌↔◌, ◌%◌, ◌++◌, [], ◌∷◌, length, ℕ, Bool, List, Option, Some};
 ghost use Rattle.std.specs.Io.KnownBytes.{Appends};
-ghost use Rattle.cc_explain.specs.Correct.{WritesListing};
-ghost use Rattle.cc_explain.specs.Input.{left_of};
-ghost use Rattle.cc_explain.specs.Place.{header_of};
+ghost use Rattle.cc_decode.specs.Correct.{WritesListing};
+ghost use Rattle.cc_decode.specs.Input.{left_of};
+ghost use Rattle.cc_decode.specs.Place.{header_of};
 ghost use Rattle.cc_laws.specs.ListingParts.{AreListingRows, RowsInParts};
 ghost use Rattle.cc_io.specs.declared.input_form.ByteOrder.{ByteOrder as ByteOrderSpec};
 ghost use Rattle.cc_io.specs.declared.input_form.InputForm.TheVariants as form;
-ghost use Rattle.cc_explain.specs.declared.options.Options.{Options as OptionsSpec};
+ghost use Rattle.cc_decode.specs.declared.options.Options.{Options as OptionsSpec};
 
 /// Proves that an input has one listing. Two sinks that had taken the same bytes before it have
 /// taken the same bytes after it, and both listings have an error, or neither.

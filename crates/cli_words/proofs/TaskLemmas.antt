@@ -8,14 +8,14 @@ use Rattle.std.specs.List.{list_any}
 use Rattle.std.specs.Io.KnownBytes.{Appends}
 use Rattle.cc_io.specs.declared.summary.IoError.{IoError}
 use Rattle.cc_io.specs.declared.summary.Summary.{Summary}
-use Rattle.cc_explain.specs.declared.options.Options.{Options}
-use Rattle.cc_explain.specs.declared.options.Part.{Part}
+use Rattle.cc_decode.specs.declared.options.Options.{Options}
+use Rattle.cc_decode.specs.declared.options.Part.{Part}
 use Rattle.cc_io.specs.Devices.{InputState, OutputState}
-use Rattle.cc_explain.specs.Core.{ListsCore}
-use Rattle.cc_explain.specs.Correct.{Lists}
-use Rattle.cc_explain.specs.declared.options.Search.{Search}
+use Rattle.cc_decode.specs.Core.{ListsCore}
+use Rattle.cc_decode.specs.Correct.{Lists}
+use Rattle.cc_decode.specs.declared.options.Search.{Search}
 use Rattle.cc_io.specs.declared.format.Format.{Format}
-use Rattle.cc_explain.proofs.SkipLemmas.{lists_further}
+use Rattle.cc_decode.proofs.SkipLemmas.{lists_further}
 use Rattle.cli.specs.declared.question.Base.{Base}
 use Rattle.cli.specs.Devices.{Console, FromInput, OnDevices, console_of}
 use Rattle.cli.proofs.DeviceLemmas.{on_devices-map}

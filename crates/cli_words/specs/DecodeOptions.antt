@@ -3,10 +3,10 @@ use Rattle.std.specs.Prelude.{ℕ, Bool, ◌/◌, ◌||◌, not, List, Option, S
 use Rattle.std.specs.Borrow.{Bor}
 use Rattle.cc_io.specs.declared.format.Format.{Format}
 use Rattle.cc_io.specs.declared.input_form.InputForm.{InputForm}
-use Rattle.cc_explain.specs.declared.options.Options.{Options}
-use Rattle.cc_explain.specs.declared.options.Part.{Part}
-use Rattle.cc_explain.specs.declared.options.Search.{Search}
-use Rattle.cc_explain.specs.declared.options.Tags.{Tags}
+use Rattle.cc_decode.specs.declared.options.Options.{Options}
+use Rattle.cc_decode.specs.declared.options.Part.{Part}
+use Rattle.cc_decode.specs.declared.options.Search.{Search}
+use Rattle.cc_decode.specs.declared.options.Tags.{Tags}
 use Rattle.cli.specs.declared.invocation.DecodeValues.{DecodeValues}
 use Rattle.cli.specs.declared.invocation.SearchValues.{SearchValues}
 

@@ -3,7 +3,7 @@ use Rattle.std.specs.Prelude.{ℕ, Bool, false, not, ◌&&◌, IsErr, List, [], 
 use Rattle.cc_word.specs.WordText.{IsWordText}
 use Rattle.cc_values.specs.Values.{length_in}
 use Rattle.cc_explain.specs.Explanation.{IsExplanation}
-use Rattle.cc_explain.specs.Output.{IsShown}
+use Rattle.cc_decode.specs.Output.{IsShown}
 use Rattle.cc_io.specs.CommandOutput.{IsTypedWord}
 use Rattle.cc_explain.specs.Listing.{IsListing}
 use Rattle.cc_explain.specs.WindowDrawing.{IsWindowDrawing}

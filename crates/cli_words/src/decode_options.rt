@@ -3,7 +3,7 @@ ghost use Rattle.std.specs.Prelude.{◌≡◌, option_map, unwrap_or};
 ghost use Rattle.cli_words.specs.DecodeOptions.{options_of, part_of, search_of, tags_after};
 
 use bitflags::Flags;
-use cc_explain::{Options, Part, Search, Tags};
+use cc_decode::{Options, Part, Search, Tags};
 use cc_io::{Format, InputForm};
 use cc_word::Perms;
 use cli::{DecodeValues, SearchValues};

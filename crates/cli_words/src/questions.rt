@@ -11,7 +11,8 @@ use crate::explaining_bounds::explain_length;
 use crate::number_hint::hint_numbers;
 use crate::rounding::show_round;
 use crate::word_hint::hint_word;
-use cc_explain::{draw_window, explain_word, show_row, show_word};
+use cc_decode::show_row;
+use cc_explain::{draw_window, explain_word, show_word};
 use cc_io::{Format, IoError, Sink, Summary};
 use cli::{Base, Fault, Question};
 

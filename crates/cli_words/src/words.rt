@@ -11,7 +11,7 @@ use crate::file_hint::hint_file;
 use crate::length_list::round_list;
 use crate::number_hint::hint_list;
 use crate::questions::address_of;
-use cc_explain::{Options, Part, annotate, decode_core, decode_words};
+use cc_decode::{Options, Part, annotate, decode_core, decode_words};
 use cc_io::{Format, InputForm, Sink, Summary};
 use cli::{
     Base, Content, DecodeValues, Fault, InputName, Inputs, Memory, SearchValues, file_input,
