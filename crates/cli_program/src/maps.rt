@@ -1,11 +1,11 @@
 //! `map`: the drawing of a pool at the end of a script.
-ghost use Rattle.std.specs.Prelude.{◌≡◌, ◌≢◌, ◌≤◌, ◌↔◌, false, true, Err, IsOk, OnOk};
+ghost use Rattle.std.specs.Prelude.{◌≡◌, ◌≢◌, ◌≤◌, ◌↔◌, ◌⊎◌, false, true, Err, IfErr, IsOk, OnOk};
 ghost use Rattle.cc_machine.specs.State.{initial_state};
 ghost use Rattle.cc_syntax.specs.Planning.{pool_of};
 ghost use Rattle.cc_io.specs.Devices.{OutputState};
 ghost use Rattle.cli.specs.Devices.{FromInput, IsEnd, OnDevices, OnOutput, traffic_on};
 ghost use Rattle.cli.specs.Input.{IsFile, file_input};
-ghost use Rattle.cli_program.specs.Runs.{DrawsRun, MapsFile};
+ghost use Rattle.cli_program.specs.Runs.{DrawsPool, DrawsRun, MapsFile};
 
 use crate::memory::RunMemory;
 use crate::statistics::show_statistics;
@@ -103,8 +103,49 @@ fn draw<M: RunMemory, I: Inputs, W: Sink>(
         result }
 {
     let mut machine = memory.machine(limit)?;
+    let drawn = open_and_draw(
+        memory,
+        opening,
+        svg,
+        &mut machine,
+        inputs,
+        source,
+        input,
+        sink,
+    );
+    // by a call, as in `runs`
+    drop(machine);
+    drawn
+}
+
+/// Opens an input, runs the script that it has without writing the replies, and draws the pool if the script came to
+/// its end.
+fn open_and_draw<M: RunMemory, I: Inputs, W: Sink>(
+    memory: &mut M,
+    opening: &[Op],
+    svg: bool,
+    machine: &mut Machine,
+    inputs: &mut I,
+    source: &mut I::Opened,
+    input: InputName<'_>,
+    sink: &mut W,
+) -> Result<Summary, Fault>
+    requires memory { M.has_failed memory.old ≡ false }
+    requires source { (I.Opened.state source.old).has_failed ≡ false }
+    requires inputs { I.has_refused inputs.old ≡ false }
+    requires sink { (W.state sink.old).has_failed ≡ false }
+    ensures draws { OnOutput (I.bytes_of inputs.old) (I.Opened.state source.new) (W.state sink.old) (W.state sink.new)
+        (λ console. FromInput input.entry console (DrawsRun svg opening.now machine.old)) result }
+    ensures open { result ≡ Err Fault.Open → IsFile input.entry }
+    ensures starved { result ≡ Err Fault.Memory → (W.state sink.new).taken ≡ (W.state sink.old).taken }
+    ensures asked { I.last_asked inputs.new input.entry Content.Pool ≡ false → (inputs.new ≡ inputs.old)
+        × (source.new ≡ source.old) }
+    ensures allocates { (result ≡ Err Fault.Memory) ↔ (M.has_failed memory.new ≡ true) }
+    ensures end { IsEnd (I.has_refused inputs.new) (I.Opened.state source.new) (W.state sink.old) (W.state sink.new)
+        result }
+{
     inputs.open(input, Content::Pool, source)?;
-    draw_end(memory, opening, svg, &mut machine, source, sink)
+    draw_end(memory, opening, svg, machine, source, sink)
 }
 
 /// Runs a script without writing the replies, and draws the pool if the script came to its end: an SVG document, or a
@@ -136,6 +177,28 @@ fn draw_end<M: RunMemory, S: Source, W: Sink>(
     };
     let mut page = Pending::new();
     let summary = run_session(opening, &mut session, source, &mut Discard, &mut page)?;
+    draw_pool(memory, svg, &session, sink)?;
+    Ok(summary)
+}
+
+/// Draws the pool of a session: as an SVG document, or as a map with the statistics of the run.
+///
+/// Errors: `Memory` if an allocation fails, and nothing was written then; `Write` if and only if the sink failed.
+fn draw_pool<M: RunMemory, W: Sink>(
+    memory: &mut M,
+    svg: bool,
+    session: &Session<'_>,
+    sink: &mut W,
+) -> Result<(), Fault>
+    requires memory { M.has_failed memory.old ≡ false }
+    requires sink { (W.state sink.old).has_failed ≡ false }
+    ensures drawn { OnOk result (DrawsPool svg session.now (W.state sink.old).taken (W.state sink.new).taken) }
+    ensures fails { IfErr result (λ fault. (fault ≡ Fault.Memory) ⊎ (fault ≡ Fault.Write)) }
+    ensures starved { result ≡ Err Fault.Memory → (W.state sink.new).taken ≡ (W.state sink.old).taken }
+    ensures allocates { (result ≡ Err Fault.Memory) ↔ (M.has_failed memory.new ≡ true) }
+    ensures write { (result ≡ Err Fault.Write) ↔ ((W.state sink.new).has_failed ≡ true) }
+    ensures flushed { OnOk result ((W.state sink.new).is_flushed ≡ true) }
+{
     if svg {
         show_drawing(session.machine.planner(), sink)?;
     } else {
@@ -143,5 +206,5 @@ fn draw_end<M: RunMemory, S: Source, W: Sink>(
         show_map(session.machine.planner(), sink)?;
         show_statistics(&usage, &session.tally, sink)?;
     }
-    Ok(summary)
+    Ok(())
 }

@@ -167,17 +167,58 @@ fn run<M: RunMemory, I: Inputs, W: Sink, E: Sink>(
     ensures unreported { OnErr result ((E.state errors.new).taken ≡ (E.state errors.old).taken) }
 {
     let mut machine = memory.machine(limit)?;
-    inputs.open(input, Content::Script, source)?;
-    run_and_report(
+    let ran = open_and_run(
         memory,
         opening,
         pool,
         report,
         &mut machine,
+        inputs,
         source,
+        input,
         sink,
         errors,
-    )
+    );
+    // the compiler would write the drop out here: by a call, it is proved once for all that end with a machine
+    drop(machine);
+    ran
+}
+
+/// Opens an input, runs the script that it has, and reports the run if it came to its end.
+fn open_and_run<M: RunMemory, I: Inputs, W: Sink, E: Sink>(
+    memory: &mut M,
+    opening: &[Op],
+    pool: Option<Len>,
+    report: Report,
+    machine: &mut Machine,
+    inputs: &mut I,
+    source: &mut I::Opened,
+    input: InputName<'_>,
+    sink: &mut W,
+    errors: &mut E,
+) -> Result<Summary, Fault>
+    requires memory { M.has_failed memory.old ≡ false }
+    requires source { (I.Opened.state source.old).has_failed ≡ false }
+    requires inputs { I.has_refused inputs.old ≡ false }
+    requires sink { (W.state sink.old).has_failed ≡ false }
+    requires errors { (E.state errors.old).has_failed ≡ false }
+    ensures runs { OnDevices (FromInput input.entry
+        (console_of (I.bytes_of inputs.old) (I.Opened.state source.new) (W.state sink.old) (W.state sink.new)
+        (E.state errors.old) (E.state errors.new)) (ReportsRun report opening.now pool machine.old))
+        result }
+    ensures open { result ≡ Err Fault.Open → IsFile input.entry }
+    ensures asked { I.last_asked inputs.new input.entry Content.Script ≡ false → (inputs.new ≡ inputs.old)
+        × (source.new ≡ source.old) }
+    ensures allocates { (result ≡ Err Fault.Memory) ↔ (M.has_failed memory.new ≡ true) }
+    ensures starved { result ≡ Err Fault.Memory → StarvesRun report opening.now machine.old input.entry
+        (console_of (I.bytes_of inputs.old) (I.Opened.state source.new) (W.state sink.old) (W.state sink.new)
+        (E.state errors.old) (E.state errors.new)) }
+    ensures end { IsEnd (I.has_refused inputs.new) (I.Opened.state source.new) (W.state sink.old) (W.state sink.new)
+        result }
+    ensures unreported { OnErr result ((E.state errors.new).taken ≡ (E.state errors.old).taken) }
+{
+    inputs.open(input, Content::Script, source)?;
+    run_and_report(memory, opening, pool, report, machine, source, sink, errors)
 }
 
 /// Runs a script, and reports the run if it came to its end.

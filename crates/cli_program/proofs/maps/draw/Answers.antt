@@ -1,12 +1,13 @@
-use Rattle.std.proofs.Common.{refl}
-use Rattle.cli.specs.Devices.{console_of}
-use Rattle.cc_machine.specs.State.{initial_state}
-use Rattle.cli_program.proofs.RunLemmas.{draws_input}
+use Rattle.std.proofs.Common.{subst}
+use Rattle.cc_machine.specs.State.{State}
+use Rattle.cli.specs.Devices.{FromInput, OnDevices, console_of}
+use Rattle.cli_program.specs.Runs.{DrawsRun}
 use Rattle.cli_program.proofs.maps.draw.Goals as goal
 
 pub returns-clause-draws : goal.returns-clause-draws
 returns-clause-draws g c = λ errors errors_now.
-    draws_input c.args.svg c.args.opening.now c.in_ok-machine.machine (initial_state c.args.limit) c.args.input
-    (console_of (g.I.Inputs.bytes_of c.args.inputs.now) (g.I.Opened.Source.state c.draw_end.new.source) (g.W.Sink.state c.args.sink.now) (g.W.Sink.state c.draw_end.new.sink) errors errors_now)
-    (g.I.Inputs.bytes_of c.args.inputs.now) _ _ c.draw_end.result c.in_ok-machine.ensures.machine refl refl
-    c.in_ok-open.ensures.opened (c.draw_end.ensures.draws errors errors_now)
+    subst (λ (start : State). OnDevices (FromInput c.args.input
+    (console_of (g.I.Inputs.bytes_of c.args.inputs.now) (g.I.Opened.Source.state c.open_and_draw-drawn.new.source)
+    (g.W.Sink.state c.args.sink.now) (g.W.Sink.state c.open_and_draw-drawn.new.sink) errors errors_now)
+    (DrawsRun c.args.svg c.args.opening.now start)) c.open_and_draw-drawn.result)
+    c.in_ok-machine.ensures.machine (c.open_and_draw-drawn.ensures.draws errors errors_now)
