@@ -7,6 +7,7 @@ mod hints;
 mod maps;
 mod memory;
 mod program;
+mod refusals;
 mod replay_support;
 mod report;
 mod runs;

@@ -8,10 +8,11 @@ ghost use Rattle.cli.specs.Input.{IsFile, file_input};
 ghost use Rattle.cli_program.specs.Runs.{DrawsPool, DrawsRun, MapsFile};
 
 use crate::memory::RunMemory;
+use crate::refusals::refuse;
 use crate::statistics::show_statistics;
 use cc_bounds::Align;
 use cc_draw::{show_drawing, show_map};
-use cc_io::{Pending, Sink, Source, Summary, write_refusal};
+use cc_io::{Pending, Sink, Source, Summary};
 use cc_machine::{Machine, Op};
 use cc_script::{Session, run_session};
 use cc_syntax::{Tally, plan_numbers, plan_opening};
@@ -69,7 +70,7 @@ pub fn map_file<M: RunMemory, I: Inputs, W: Sink>(
                 sink,
             )
         }
-        Err(refusal) => Ok(write_refusal(refusal, sink)?),
+        Err(refusal) => refuse(refusal, sink),
     }
 }
 

@@ -7,7 +7,8 @@ ghost use Rattle.cli.specs.Input.{OpensFile};
 ghost use Rattle.cli.specs.Invocation.{kinds_in, value_mistake};
 ghost use Rattle.cli_program.specs.Execution.{IsUnasked, ReplayCommand, no_replay};
 
-use cc_io::{Sink, Summary, write_refusal};
+use crate::refusals::refuse;
+use cc_io::{Sink, Summary};
 use cc_word::Refusal;
 use clap::error::ErrorKind;
 use clap::{Command, Error};
@@ -84,7 +85,7 @@ impl ReplaySupport for GlobalMemory {
         _file: Option<&str>,
         sink: &mut W,
     ) -> Result<Summary, Fault> {
-        Ok(write_refusal(Refusal::Syntax, sink)?)
+        refuse(Refusal::Syntax, sink)
     }
 }
 

@@ -7,9 +7,10 @@ ghost use Rattle.cli.specs.Input.{IsFile, file_input};
 ghost use Rattle.cli_program.specs.Runs.{CompletesRun, PlansFile, ReportsRun, StarvesPlan, StarvesRun};
 
 use crate::memory::RunMemory;
+use crate::refusals::refuse;
 use crate::report::{Report, write_report};
 use cc_bounds::Align;
-use cc_io::{Pending, Sink, Source, Summary, write_refusal};
+use cc_io::{Pending, Sink, Source, Summary};
 use cc_machine::{Len, Machine, Op};
 use cc_script::{Session, run_session};
 use cc_syntax::{Tally, plan_numbers, plan_opening};
@@ -124,7 +125,7 @@ pub fn plan_file<M: RunMemory, I: Inputs, W: Sink, E: Sink>(
                 errors,
             )
         }
-        Err(refusal) => Ok(write_refusal(refusal, sink)?),
+        Err(refusal) => refuse(refusal, sink),
     }
 }
 
