@@ -10,31 +10,17 @@ use crate::table::{Choices, CommandRow, commands};
 use clap::Command;
 use std::alloc::{AllocError, Global};
 
-/// Returns the program with all its commands. `--align`, `--format`, `--bytes` and `--summary`
-/// accept the strings of `aligns`, `formats`, `orders` and `summaries`, which are parameters, so that the contract can
-/// name them.
+/// Returns the program with all its commands. `--align`, `--format`, `--bytes` and `--summary` accept the strings of
+/// `choices`, which is a parameter, so that the contract can name them.
 ///
 /// Errors: `AllocError` if an allocation fails.
-pub(crate) fn program<'a>(
-    alloc: Global,
-    aligns: &'a [&'a str],
-    formats: &'a [&'a str],
-    orders: &'a [&'a str],
-    summaries: &'a [&'a str],
-) -> Result<Command<'a>, AllocError>
-    ensures { IfOk result (λ command. app_of command ≡ program aligns.entry formats.entry orders.entry
-        summaries.entry) }
+pub(crate) fn program<'a>(alloc: Global, choices: Choices<'a>) -> Result<Command<'a>, AllocError>
+    ensures { IfOk result (λ command. app_of command ≡ program choices.entry.aligns choices.entry.formats
+        choices.entry.orders choices.entry.summaries) }
 {
-    let choices = Choices {
-        aligns,
-        formats,
-        orders,
-        summaries,
-    };
     let mut program = bare_program(alloc)?;
     for row in commands() {
-        let added = command(alloc, row, choices)?;
-        program = program.subcommand(added)?;
+        program = program.subcommand(command(alloc, row, choices)?)?;
     }
     Ok(program)
 }

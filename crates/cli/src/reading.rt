@@ -14,9 +14,9 @@ use crate::invocation::Invocation;
 use crate::mistakes::mistake;
 use crate::question::Question;
 use crate::values::{
-    align_of, aligns, are_permissions, base_of, base_or_zero, decode_values, format_of, formats,
-    input_of, is_address, is_on, limit_of, orders, pool_texts, replay_values, search_values,
-    shown_format, summaries, value_of, wanted_text,
+    align_of, are_permissions, base_of, base_or_zero, choices, decode_values, format_of, input_of,
+    is_address, is_on, limit_of, pool_texts, replay_values, search_values, shown_format, value_of,
+    wanted_text,
 };
 use clap::error::ErrorKind;
 use clap::{ArgMatches, Error};
@@ -50,7 +50,7 @@ fn parse_words<'a>(alloc: Global, words: &'a [&'a str]) -> Result<ArgMatches<'a>
         (app : App) × IsProgram app × (is_taken app (texts words.now) ≡ true → kind_of error ≡ ErrorKind.OutOfMemory)) }
     ensures kinds { (app : App) × IsProgram app × FailsBy (mistakes_of app (texts words.now)) result }
 {
-    let command = program(alloc, aligns(), formats(), orders(), summaries())?;
+    let command = program(alloc, choices())?;
     match command.try_get_matches_from(words) {
         Ok(matches) => chosen(alloc, matches),
         Err(error) => Err(error),

@@ -12,6 +12,7 @@ use crate::invocation::{
     DecodeValues, PoolTexts, ReplayOutput, ReplayValues, SearchValues, SummaryFormat,
 };
 use crate::question::Base;
+use crate::table::Choices;
 use cc_bounds::Align;
 use cc_io::{ByteOrder, Format, InputForm};
 use cc_values::{read_address, read_permissions};
@@ -20,6 +21,21 @@ use clap::ArgMatches;
 
 /// The value of `--slots` if it is not given.
 const DEFAULT_LIMIT: u32 = 4096;
+
+/// Returns the values that `--align`, `--format`, `--bytes` and `--summary` accept.
+pub(crate) fn choices<'a>() -> Choices<'a>
+    ensures aligns { texts result.aligns.now ≡ codes "1" ∷ codes "16" ∷ [] }
+    ensures formats { texts result.formats.now ≡ format_names }
+    ensures orders { texts result.orders.now ≡ order_names }
+    ensures summaries { texts result.summaries.now ≡ summary_names }
+{
+    Choices {
+        aligns: &["1", "16"],
+        formats: &["columns", "text", "fixed", "csv", "json"],
+        orders: &["little", "big"],
+        summaries: &["text", "csv", "json"],
+    }
+}
 
 /// Returns the value of an argument or of an option, if it has one.
 pub(crate) fn value_of<'a>(matches: &ArgMatches<'a>, name: &str) -> Option<&'a str>
@@ -202,13 +218,6 @@ pub(crate) fn limit_of(matches: &ArgMatches<'_>) -> u32
     matches.get_one("slots").unwrap_or(DEFAULT_LIMIT)
 }
 
-/// Returns the values that `--align` accepts.
-pub(crate) fn aligns<'a>() -> &'a [&'a str]
-    ensures { texts result.now ≡ codes "1" ∷ codes "16" ∷ [] }
-{
-    &["1", "16"]
-}
-
 /// Returns the value of `--align`, or 1.
 pub(crate) fn align_of(matches: &ArgMatches<'_>) -> Align
     requires { HasChoice align_named (codes "align") (rows_of (found_of matches.now)) }
@@ -218,13 +227,6 @@ pub(crate) fn align_of(matches: &ArgMatches<'_>) -> Align
         Some("16") => Align::Sixteen,
         _ => Align::One,
     }
-}
-
-/// Returns the values that `--format` accepts.
-pub(crate) fn formats<'a>() -> &'a [&'a str]
-    ensures { texts result.now ≡ format_names }
-{
-    &["columns", "text", "fixed", "csv", "json"]
 }
 
 /// Returns the value of `--format`, or columns.
@@ -254,13 +256,6 @@ pub(crate) fn shown_format(matches: &ArgMatches<'_>) -> Option<Format>
     }
 }
 
-/// Returns the values that `--summary` accepts.
-pub(crate) fn summaries<'a>() -> &'a [&'a str]
-    ensures { texts result.now ≡ summary_names }
-{
-    &["text", "csv", "json"]
-}
-
 /// Returns the value of `--summary`, or text.
 pub(crate) fn summary_of(matches: &ArgMatches<'_>) -> SummaryFormat
     requires { HasChoice summary_named (codes "summary") (rows_of (found_of matches.now)) }
@@ -272,13 +267,6 @@ pub(crate) fn summary_of(matches: &ArgMatches<'_>) -> SummaryFormat
         Some("json") => SummaryFormat::Json,
         _ => SummaryFormat::Text,
     }
-}
-
-/// Returns the values that `--bytes` accepts.
-pub(crate) fn orders<'a>() -> &'a [&'a str]
-    ensures { texts result.now ≡ order_names }
-{
-    &["little", "big"]
 }
 
 /// Returns raw bytes in the order that `--bytes` names, or lines of digits if it is not given.
