@@ -19,18 +19,8 @@ use Rattle.clap.specs.Takes.{is_given}
 use Rattle.clap.specs.Values.{IsSignedIn, same_text}
 use Rattle.clap.specs.declared.builder.value_parser.ValueParser.TheVariants.{Signed}
 use Rattle.clap.proofs.ValueTestLemmas.{accepts-Accepts}
-use Rattle.cc_bounds.specs.declared.align.Align.{Align}
-use Rattle.cc_bounds.specs.declared.align.Align.TheVariants.{One, Sixteen}
-use Rattle.cc_io.specs.declared.input_form.InputForm.{InputForm}
-use Rattle.cc_io.specs.declared.input_form.ByteOrder.TheVariants.{Little, Big}
-use Rattle.cc_io.specs.declared.input_form.InputForm.TheVariants.{Bytes, Lines}
-use Rattle.cc_io.specs.declared.format.Format.{Format}
-use Rattle.cc_io.specs.declared.format.Format.TheVariants.{Columns}
-use Rattle.cc_io.specs.declared.format.Format.TheVariants as format
-use Rattle.cli.specs.Invocation.{HasChoice, HasItsTexts, HasLimit, IsChosen, IsLimit, IsLimitText, choice_mistake_in, align_named, decimal_value, format_named, format_names, program}
+use Rattle.cli.specs.Invocation.{HasChoice, HasItsTexts, HasLimit, IsLimit, IsLimitText, choice_mistake_in, align_named, decimal_value, format_named, format_names, program}
 use Rattle.cli.specs.Invocation.{slots_option, choice_option, input_named, order_names, summary_named, summary_names}
-use Rattle.cli.specs.declared.invocation.SummaryFormat.{SummaryFormat}
-use Rattle.cli.specs.declared.invocation.SummaryFormat.TheVariants as summary
 use Rattle.cli.proofs.GivenLemmas.{GiveValues, GivesValue, IsTaken, flag_gives, level-given, level_parts, no_default-given, required_given, set_gives, taken}
 
 -- ---- numbers
@@ -110,20 +100,6 @@ align_read text among = go (bytes_eq (codes "1") text) (bytes_eq (codes "16") te
     go false true other is e = subst (λ (t : Text). IsSome (align_named t)) ((bytes_eq-Decides (codes "16") text).0 is) refl
     go false false one sixteen e = cc e
 
--- An alignment that is not 16 is 1.
-pub align_one : (given : Option Text) → IfSome given (λ text. IsSome (align_named text)) → (given ≡ Some (codes "16") → ⊥) → IsChosen align_named One given One
-align_one None read other = refl
-align_one (Some text) read other =
-    go (bytes_eq text (codes "1")) (bytes_eq text (codes "16")) (λ is. other (ap Some ((bytes_eq-Decides text (codes "16")).0 is))) read
-  where
-    named : (one sixteen : Bool) → Option Align
-    named one sixteen = if one then Some One else if sixteen then Some Sixteen else None
-
-    go : (one sixteen : Bool) → (sixteen ≡ true → ⊥) → IsSome (named one sixteen) → named one sixteen ≡ Some One
-    go true sixteen not_sixteen read = refl
-    go false true not_sixteen read = absurd (not_sixteen refl)
-    go false false not_sixteen read = cc read
-
 -- ---- formats
 
 -- Each name of a format names one.
@@ -142,31 +118,6 @@ format_read text among =
     go false false false false true one two three four is e = subst (λ (t : Text). IsSome (format_named t)) ((bytes_eq-Decides (codes "json") text).0 is) refl
     go false false false false false one two three four five e = cc e
 
--- A format that is none of the others is columns.
-pub format_columns : (given : Option Text) → IfSome given (λ text. IsSome (format_named text)) → (given ≡ Some (codes "text") → ⊥) → (given ≡ Some (codes "fixed") → ⊥)
-    → (given ≡ Some (codes "csv") → ⊥) → (given ≡ Some (codes "json") → ⊥) → IsChosen format_named Columns given Columns
-format_columns None read not_line not_fixed not_csv not_json = refl
-format_columns (Some text) read not_line not_fixed not_csv not_json =
-    go (bytes_eq text (codes "columns")) (bytes_eq text (codes "text")) (bytes_eq text (codes "fixed")) (bytes_eq text (codes "csv")) (bytes_eq text (codes "json"))
-    (λ is. not_line (ap Some ((bytes_eq-Decides text (codes "text")).0 is))) (λ is. not_fixed (ap Some ((bytes_eq-Decides text (codes "fixed")).0 is)))
-    (λ is. not_csv (ap Some ((bytes_eq-Decides text (codes "csv")).0 is))) (λ is. not_json (ap Some ((bytes_eq-Decides text (codes "json")).0 is))) read
-  where
-    named : (columns line fixed csv json : Bool) → Option Format
-    named columns line fixed csv json =
-        if columns then Some Columns
-        else if line then Some format.Text
-        else if fixed then Some format.Fixed
-        else if csv then Some format.Csv else if json then Some format.Json else None
-
-    go : (columns line fixed csv json : Bool) → (line ≡ true → ⊥) → (fixed ≡ true → ⊥) → (csv ≡ true → ⊥) → (json ≡ true → ⊥) → IsSome (named columns line fixed csv json)
-        → named columns line fixed csv json ≡ Some Columns
-    go true line fixed csv json no_line no_fixed no_csv no_json read = refl
-    go false true fixed csv json no_line no_fixed no_csv no_json read = absurd (no_line refl)
-    go false false true csv json no_line no_fixed no_csv no_json read = absurd (no_fixed refl)
-    go false false false true json no_line no_fixed no_csv no_json read = absurd (no_csv refl)
-    go false false false false true no_line no_fixed no_csv no_json read = absurd (no_json refl)
-    go false false false false false no_line no_fixed no_csv no_json read = cc read
-
 -- Each name of a format of a summary names one.
 summary_read : (text : Text) → list_any (λ name. bytes_eq name text) summary_names ≡ true → IsSome (summary_named text)
 summary_read text among =
@@ -179,23 +130,6 @@ summary_read text among =
     go false false true one two is e = subst (λ (t : Text). IsSome (summary_named t)) ((bytes_eq-Decides (codes "json") text).0 is) refl
     go false false false one two three e = cc e
 
--- A format of a summary that is none of the others is text.
-pub summary_text : (given : Option Text) → IfSome given (λ text. IsSome (summary_named text)) → (given ≡ Some (codes "csv") → ⊥) → (given ≡ Some (codes "json") → ⊥)
-    → IsChosen summary_named summary.Text given summary.Text
-summary_text None read not_csv not_json = refl
-summary_text (Some text) read not_csv not_json =
-    go (bytes_eq text (codes "text")) (bytes_eq text (codes "csv")) (bytes_eq text (codes "json"))
-    (λ is. not_csv (ap Some ((bytes_eq-Decides text (codes "csv")).0 is))) (λ is. not_json (ap Some ((bytes_eq-Decides text (codes "json")).0 is))) read
-  where
-    named : (line csv json : Bool) → Option SummaryFormat
-    named line csv json = if line then Some summary.Text else if csv then Some summary.Csv else if json then Some summary.Json else None
-
-    go : (line csv json : Bool) → (csv ≡ true → ⊥) → (json ≡ true → ⊥) → IsSome (named line csv json) → named line csv json ≡ Some summary.Text
-    go true csv json no_csv no_json read = refl
-    go false true json no_csv no_json read = absurd (no_csv refl)
-    go false false true no_csv no_json read = absurd (no_json refl)
-    go false false false no_csv no_json read = cc read
-
 -- ---- orders of bytes
 
 -- Each name of an order names one.
@@ -207,19 +141,6 @@ order_read text among = go (bytes_eq (codes "little") text) (bytes_eq (codes "bi
     go true big is other e = subst (λ (t : Text). IsSome (input_named t)) ((bytes_eq-Decides (codes "little") text).0 is) refl
     go false true other is e = subst (λ (t : Text). IsSome (input_named t)) ((bytes_eq-Decides (codes "big") text).0 is) refl
     go false false one two e = cc e
-
--- An order that is not big is little.
-pub order_little : (text : Text) → IsSome (input_named text) → (text ≡ codes "big" → ⊥) → IsChosen input_named Lines (Some text) (Bytes Little)
-order_little text read other =
-    go (bytes_eq text (codes "little")) (bytes_eq text (codes "big")) (λ is. other ((bytes_eq-Decides text (codes "big")).0 is)) read
-  where
-    named : (little big : Bool) → Option InputForm
-    named little big = if little then Some (Bytes Little) else if big then Some (Bytes Big) else None
-
-    go : (little big : Bool) → (big ≡ true → ⊥) → IsSome (named little big) → named little big ≡ Some (Bytes Little)
-    go true big not_big read = refl
-    go false true not_big read = absurd (not_big refl)
-    go false false not_big read = cc read
 
 -- Two texts that the test distinguishes are not equal.
 other : (a b : Text) → bytes_eq a b ≡ false → a ≡ b → ⊥

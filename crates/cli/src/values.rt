@@ -1,5 +1,5 @@
 //! The values that clap found for arguments and options.
-ghost use Rattle.std.specs.Prelude.{◌≡◌, ◌∷◌, [], None, Some, codes, true, option_map, unwrap_or};
+ghost use Rattle.std.specs.Prelude.{◌≡◌, ◌∷◌, [], IsSome, None, Some, codes, true, option_map, unwrap_or};
 ghost use Rattle.clap.specs.Walk.{texts};
 ghost use Rattle.clap.specs.Words.{first_of, found_of, rows_of};
 ghost use Rattle.cc_values.specs.Values.{address_in, permissions_in};
@@ -224,7 +224,18 @@ pub(crate) fn align_of(matches: &ArgMatches<'_>) -> Align
     ensures { IsChosen align_named Align.One (first_of (codes "align") (rows_of (found_of matches.now))) result }
 {
     match value_of(matches, "align") {
-        Some("16") => Align::Sixteen,
+        Some(text) => align_named(text),
+        None => Align::One,
+    }
+}
+
+/// Returns the alignment that a text names.
+fn align_named(text: &str) -> Align
+    requires { IsSome (align_named text.now) }
+    ensures { align_named text.now ≡ Some result }
+{
+    match text {
+        "16" => Align::Sixteen,
         _ => Align::One,
     }
 }
@@ -235,10 +246,21 @@ pub(crate) fn format_of(matches: &ArgMatches<'_>) -> Format
     ensures { IsChosen format_named Format.Columns (first_of (codes "format") (rows_of (found_of matches.now))) result }
 {
     match value_of(matches, "format") {
-        Some("text") => Format::Text,
-        Some("fixed") => Format::Fixed,
-        Some("csv") => Format::Csv,
-        Some("json") => Format::Json,
+        Some(text) => format_named(text),
+        None => Format::Columns,
+    }
+}
+
+/// Returns the format that a text names.
+fn format_named(text: &str) -> Format
+    requires { IsSome (format_named text.now) }
+    ensures { format_named text.now ≡ Some result }
+{
+    match text {
+        "text" => Format::Text,
+        "fixed" => Format::Fixed,
+        "csv" => Format::Csv,
+        "json" => Format::Json,
         _ => Format::Columns,
     }
 }
@@ -263,8 +285,19 @@ pub(crate) fn summary_of(matches: &ArgMatches<'_>) -> SummaryFormat
         (first_of (codes "summary") (rows_of (found_of matches.now))) result }
 {
     match value_of(matches, "summary") {
-        Some("csv") => SummaryFormat::Csv,
-        Some("json") => SummaryFormat::Json,
+        Some(text) => summary_named(text),
+        None => SummaryFormat::Text,
+    }
+}
+
+/// Returns the format of a summary that a text names.
+fn summary_named(text: &str) -> SummaryFormat
+    requires { IsSome (summary_named text.now) }
+    ensures { summary_named text.now ≡ Some result }
+{
+    match text {
+        "csv" => SummaryFormat::Csv,
+        "json" => SummaryFormat::Json,
         _ => SummaryFormat::Text,
     }
 }
@@ -275,8 +308,18 @@ pub(crate) fn input_of(matches: &ArgMatches<'_>) -> InputForm
     ensures { IsChosen input_named InputForm.Lines (first_of (codes "bytes") (rows_of (found_of matches.now))) result }
 {
     match value_of(matches, "bytes") {
+        Some(text) => input_named(text),
         None => InputForm::Lines,
-        Some("big") => InputForm::Bytes(ByteOrder::Big),
-        Some(_) => InputForm::Bytes(ByteOrder::Little),
+    }
+}
+
+/// Returns raw bytes in the order that a text names.
+fn input_named(text: &str) -> InputForm
+    requires { IsSome (input_named text.now) }
+    ensures { input_named text.now ≡ Some result }
+{
+    match text {
+        "big" => InputForm::Bytes(ByteOrder::Big),
+        _ => InputForm::Bytes(ByteOrder::Little),
     }
 }
