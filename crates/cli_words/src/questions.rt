@@ -137,13 +137,28 @@ fn round<W: Sink, E: Sink>(
     ensures silent { ¬ IsTrue (has_hint hints (question.Round base.entry length.entry)) → errors.new ≡ errors.old }
     ensures unreported { OnErr result (errors.new ≡ errors.old) }
 {
-    match show_round(address_of(base), length.as_bytes(), sink) {
+    match show_rounding(base, length, sink) {
         Ok(summary) => {
             hint_numbers(hints, base, &[length], errors);
             Ok(summary)
         }
         Err(error) => Err(error),
     }
+}
+
+/// Writes how setting bounds rounds a length, with the bounds granted from a base on if one is given.
+fn show_rounding<W: Sink>(
+    base: Option<Base<'_>>,
+    length: &str,
+    sink: &mut W,
+) -> Result<Summary, IoError>
+    requires { (W.state sink.old).has_failed ≡ false }
+    ensures answered { WritesAnswer (IsAnswerTo (question.Round base.entry length.entry)) (W.state sink.old)
+        (W.state sink.new) result }
+    ensures any_error { IfOk result (λ summary. IsTrue summary.any_error
+        ↔ IsUnanswerable (question.Round base.entry length.entry)) }
+{
+    show_round(address_of(base), length.as_bytes(), sink)
 }
 
 /// Returns the address of a base, if one is given.
