@@ -11,7 +11,7 @@ ghost use Rattle.cc_io.specs.CommandOutput.{WritesAnswer};
 ghost use Rattle.cli_words.specs.Rounding.{IsRounding, IsRoundingFrom, IsUnroundable};
 
 use cc_bounds::{Len, Span, set_bounds};
-use cc_io::{IoError, Page, Sink, Summary, Text, refusal_bytes, write_and_flush};
+use cc_io::{IoError, Page, Sink, Summary, Text, push_hexadecimal, refusal_bytes, write_and_flush};
 use cc_syntax::{read_length, reply_line, request_from};
 use cc_values::Reply;
 
@@ -91,6 +91,7 @@ pub(crate) fn push_rounding<const N: usize>(base: Option<u64>, size: Len, out: &
 }
 
 /// Appends the base and the top that a request is granted.
+#[tactic(auto, unfolding(cc_io::specs::Numbered::with_hexadecimal))]
 fn push_granted<const N: usize>(request: &Span, out: &mut Page<N>)
     requires is_span { IsSpan request.now }
     requires room { length out.old + 70 ≤ N }
@@ -99,10 +100,8 @@ fn push_granted<const N: usize>(request: &Span, out: &mut Page<N>)
     ensures fits { length out.new ≤ length out.old + 70 }
 {
     let granted = granted_to(request);
-    out.push(b" ");
-    out.push_hexadecimal(u128::from(granted.base));
-    out.push(b" ");
-    out.push_hexadecimal(granted.top);
+    push_hexadecimal(out, b" ", u128::from(granted.base));
+    push_hexadecimal(out, b" ", granted.top);
 }
 
 /// Returns the span that a request is granted.
