@@ -1,3 +1,4 @@
 pub mod SlotLemmas
 pub mod CommandLemmas
 pub mod TallyLemmas
+mod HintLemmas

@@ -5,3 +5,5 @@ pub mod Planning
 pub mod Request
 pub mod LineHints
 pub mod Tally
+pub mod Statistics
+pub mod Hints

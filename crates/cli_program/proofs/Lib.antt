@@ -1,4 +1,3 @@
-mod HintLemmas
 mod ReportLemmas
 mod RunLemmas
 mod OutcomeLemmas

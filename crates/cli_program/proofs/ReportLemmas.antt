@@ -4,9 +4,9 @@ use Rattle.std.proofs.KnownBytes.{Appends-trans}
 use Rattle.std.specs.Io.KnownBytes.{Appends}
 use Rattle.std.proofs.lemmas.Bool.{false≢true}
 use Rattle.cc_values.specs.declared.reply.Reply.{Reply}
-use Rattle.cli_program.specs.Hints.{hints_of, hints_text}
+use Rattle.cc_syntax.specs.Hints.{hints_of, hints_text}
 use Rattle.cc_script.specs.declared.session.Session.{Session}
-use Rattle.cli_program.specs.Statistics.{statistics_text}
+use Rattle.cc_syntax.specs.Statistics.{statistics_text}
 use Rattle.cc_syntax.specs.Tally.{Exchange}
 use Rattle.cc_values.specs.declared.usage.Usage.{Usage}
 use Rattle.cli_program.specs.Report.{IsMachineUsage, IsStatistics, WritesReport, hints_given}

@@ -1,6 +1,4 @@
 -- In reading order.
-pub mod Statistics
-pub mod Hints
 pub mod Report
 pub mod Runs
 pub mod Execution

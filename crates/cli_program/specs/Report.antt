@@ -2,11 +2,11 @@
 use Rattle.std.specs.Prelude.{ℕ, Bool, true, false, ◌≡◌, ◌||◌, List, [], ◌++◌, Option, if◌then◌else◌, length}
 use Rattle.std.specs.Io.KnownBytes.{Appends}
 use Rattle.cc_values.specs.declared.reply.Reply.{Reply}
-use Rattle.cli_program.specs.Hints.{hints_of, hints_text}
+use Rattle.cc_syntax.specs.Hints.{hints_of, hints_text}
 use Rattle.cc_machine.specs.Planned.{plan_of}
 use Rattle.cc_machine.specs.State.{State}
 use Rattle.cc_script.specs.declared.session.Session.{Session}
-use Rattle.cli_program.specs.Statistics.{statistics_text}
+use Rattle.cc_syntax.specs.Statistics.{statistics_text}
 use Rattle.cc_syntax.specs.Tally.{Exchange}
 use Rattle.cc_draw.specs.Usage.{IsUsage}
 use Rattle.cc_values.specs.declared.usage.Usage.{Usage}

@@ -18,7 +18,7 @@ use Rattle.cc_syntax.specs.Planning.{plan_opening, pool_of}
 use Rattle.cc_script.specs.Main.{Main}
 use Rattle.cc_script.specs.Running.{RunsSession}
 use Rattle.cc_script.specs.declared.session.Session.{Session}
-use Rattle.cli_program.specs.Statistics.{statistics_text}
+use Rattle.cc_syntax.specs.Statistics.{statistics_text}
 use Rattle.cc_syntax.specs.Tally.{Exchange, IsTally}
 use Rattle.cc_values.specs.declared.usage.Usage.{Usage}
 use Rattle.cli.specs.declared.invocation.PoolTexts.{PoolTexts}

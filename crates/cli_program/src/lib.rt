@@ -3,7 +3,6 @@
 #![tactic(auto)]
 
 mod execution;
-mod hints;
 mod maps;
 mod memory;
 mod program;
@@ -11,16 +10,13 @@ mod refusals;
 mod replay_support;
 mod report;
 mod runs;
-mod statistics;
 mod terminals;
 
 pub use execution::execute;
-pub use hints::{Hints, show_hints};
 pub use maps::map_file;
 pub use memory::RunMemory;
 pub use program::{answer_on_process, answer_words, run_program};
 pub use replay_support::ReplaySupport;
 pub use report::Report;
 pub use runs::{plan_file, run_file};
-pub use statistics::show_statistics;
 pub use terminals::Terminals;

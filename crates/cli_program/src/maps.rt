@@ -9,13 +9,12 @@ ghost use Rattle.cli_program.specs.Runs.{DrawsPool, DrawsRun, MapsFile};
 
 use crate::memory::RunMemory;
 use crate::refusals::refuse;
-use crate::statistics::show_statistics;
 use cc_bounds::Align;
 use cc_draw::{show_drawing, show_map};
 use cc_io::{Pending, Sink, Source, Summary};
 use cc_machine::{Machine, Op};
 use cc_script::{Session, run_session};
-use cc_syntax::{Tally, plan_numbers, plan_opening};
+use cc_syntax::{Tally, plan_numbers, plan_opening, show_statistics};
 use cli::{Content, Discard, Fault, InputName, Inputs, PoolTexts, file_input};
 
 /// Runs the script that FILE names on a new machine with a pool, without writing the replies, and draws the pool: as an

@@ -5,14 +5,13 @@ ghost use Rattle.cc_values.specs.declared.reply.Reply.{Reply};
 ghost use Rattle.cc_syntax.specs.Tally.{Exchange, IsTally};
 ghost use Rattle.cli_program.specs.Report.{IsMachineUsage, WritesReport, report_of};
 
-use crate::hints::{Hints, show_hints};
 use crate::memory::RunMemory;
-use crate::statistics::show_statistics;
 use crate::terminals::Terminals;
 use cc_draw::usage_of;
 use cc_io::Sink;
 use cc_machine::{Len, Machine};
 use cc_script::Session;
+use cc_syntax::{Hints, show_hints, show_statistics};
 use cc_values::Usage;
 use std::alloc::{AllocError, Global};
 

@@ -1,8 +1,8 @@
 use Rattle.std.proofs.Common.{[], ◌∙◌, ap, subst, sym}
 use Rattle.std.proofs.KnownBytes.{Appends-nil}
 use Rattle.std.specs.Io.KnownBytes.{Appends}
-use Rattle.cli_program.specs.Hints.{hints_text}
-use Rattle.cli_program.specs.Statistics.{statistics_text}
+use Rattle.cc_syntax.specs.Hints.{hints_text}
+use Rattle.cc_syntax.specs.Statistics.{statistics_text}
 use Rattle.cli_program.proofs.ReportLemmas.{asked_statistics, given_hints, no_hints, no_statistics, of_answer, of_answered, tells}
 use Rattle.cli_program.proofs.report.write_report.Goals as goal
 use Rattle.cli_program.proofs.report.write_report.Goals.{then-report+in_ok-usage+else-is_err, else-report}

@@ -1,6 +1,6 @@
 use Rattle.std.proofs.Common.{◌≡◌, ◌≤◌, ◌+◌, ◌*◌, ◌++◌, length}
-use Rattle.cli_program.specs.Statistics.{refusal_lines}
-use Rattle.cli_program.proofs.statistics.push_counts.Given as goal
+use Rattle.cc_syntax.specs.Statistics.{refusal_lines}
+use Rattle.cc_syntax.proofs.statistics.push_counts.Given as goal
 
 abbrev pub invariant-counts : goal.invariant-counts
 invariant-counts l = record {

@@ -5,7 +5,7 @@ use Rattle.std.proofs.lemmas.Bool.{lt-ltb}
 use Rattle.std.proofs.Math.Dec.{eqb-suc-zero}
 use Rattle.cc_word.specs.declared.refusal.Refusal.{Refusal}
 use Rattle.cc_values.specs.declared.reply.Reply.{Reply}
-use Rattle.cli_program.specs.Hints.{is_in_opening}
+use Rattle.cc_syntax.specs.Hints.{is_in_opening}
 use Rattle.cc_syntax.specs.Tally.{Exchange, count_in, is_refusal}
 use Rattle.cc_syntax.specs.declared.tally.Count.{Count}
 use Rattle.cc_syntax.proofs.TallyLemmas.{IsInOpening, in_opening}

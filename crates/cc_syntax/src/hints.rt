@@ -4,15 +4,15 @@ ghost use Rattle.cc_io.specs.Devices.{SendsBytes};
 ghost use Rattle.cc_values.specs.declared.reply.Reply.{Reply};
 ghost use Rattle.std.specs.List.{list_any};
 ghost use Rattle.cc_word.specs.declared.refusal.Refusal.TheVariants.{Inexact};
-ghost use Rattle.cli_program.specs.Hints.{hints_of, hints_text, is_in_opening, line_hint, pool_hint};
+ghost use Rattle.cc_syntax.specs.Hints.{hints_of, hints_text, is_in_opening, line_hint, pool_hint};
 ghost use Rattle.cc_syntax.specs.Tally.{Exchange, IsTally, is_refusal};
 
+use crate::tally::{Count, Tally};
 use cc_bounds::{Len, granule, round_length};
 use cc_io::{
     IoError, MOST_TEXT, Sink, Text, end_with_decimal, end_with_hexadecimal, push_hexadecimal,
     write_and_flush,
 };
-use cc_syntax::{Count, Tally};
 
 /// The facts about a run that are worth a hint. Lines of the script are numbered from 1, and 0
 /// means that there is no such line.

@@ -1,5 +1,5 @@
 use Rattle.std.proofs.Common.{rules, ◌≡◌, Some, append_assoc}
-use Rattle.cli_program.proofs.hints.push_pool_hint.Goals as goal
+use Rattle.cc_syntax.proofs.hints.push_pool_hint.Goals as goal
 
 pub returns-in-Some-clause-value : goal.returns-in-Some-clause-value
 returns-in-Some-clause-value c =

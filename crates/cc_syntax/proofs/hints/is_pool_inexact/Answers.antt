@@ -1,7 +1,7 @@
 use Rattle.std.proofs.Common.{◌∙◌}
 use Rattle.cc_word.specs.declared.refusal.Refusal.TheVariants.{Inexact}
-use Rattle.cli_program.proofs.HintLemmas.{any_in_opening}
-use Rattle.cli_program.proofs.hints.is_pool_inexact.Goals as goal
+use Rattle.cc_syntax.proofs.HintLemmas.{any_in_opening}
+use Rattle.cc_syntax.proofs.hints.is_pool_inexact.Goals as goal
 
 pub returns : goal.returns
 returns c opening exchanges counts = c.is_in_opening.ensures ∙ any_in_opening opening exchanges Inexact _ (counts.counts Inexact _)

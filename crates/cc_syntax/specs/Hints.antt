@@ -9,7 +9,7 @@ use Rattle.cc_bounds.specs.Span.{from_zero}
 use Rattle.cc_io.specs.Numbered.{line_with_decimal, line_with_hexadecimal, with_hexadecimal}
 use Rattle.cc_syntax.specs.LineHints.{ends_in_return, has_marked_word}
 use Rattle.cc_syntax.specs.Tally.{Exchange, counted, first_from, is_refusal}
-use Rattle.cli_program.specs.declared.hints.Hints.{Hints}
+use Rattle.cc_syntax.specs.declared.hints.Hints.{Hints}
 use Rattle.cc_syntax.specs.declared.tally.Count.{Count}
 
 -- The hints after a run with these replies to its setup operations, and these lines with their

@@ -1,5 +1,5 @@
 use Rattle.std.proofs.Common.{append_assoc}
-use Rattle.cli_program.proofs.hints.push_hints.Goals as goal
+use Rattle.cc_syntax.proofs.hints.push_hints.Goals as goal
 
 pub returns : goal.returns
 returns c =

@@ -2,7 +2,7 @@
 ghost use Rattle.std.specs.Prelude.{◌≡◌, ◌+◌, ◌*◌, ◌≤◌, ◌^◌, ◌++◌, [], Err, OnErr, false, length};
 ghost use Rattle.cc_io.specs.Devices.{SendsBytes};
 ghost use Rattle.cc_io.specs.Numbered.{line_with_decimal};
-ghost use Rattle.cli_program.specs.Statistics.{
+ghost use Rattle.cc_syntax.specs.Statistics.{
   byte_lines,
   count_lines,
   refusal_lines,
@@ -14,10 +14,10 @@ ghost use Rattle.cli_program.specs.Statistics.{
   statistics_text,
 };
 
+use crate::tally::{Count, Tally};
 use cc_io::{
     IoError, Line, MOST_TEXT, Sink, Text, end_with_decimal, end_with_hexadecimal, write_and_flush,
 };
-use cc_syntax::{Count, Tally};
 use cc_values::Usage;
 
 /// Writes the statistics of a run, a line for each number, and flushes the sink once after the last.

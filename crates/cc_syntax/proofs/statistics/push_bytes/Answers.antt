@@ -1,5 +1,5 @@
 use Rattle.std.proofs.Common.{append_assoc}
-use Rattle.cli_program.proofs.statistics.push_bytes.Goals as goal
+use Rattle.cc_syntax.proofs.statistics.push_bytes.Goals as goal
 
 pub returns-clause-value : goal.returns-clause-value
 returns-clause-value c =
