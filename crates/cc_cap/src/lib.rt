@@ -4,8 +4,6 @@
 mod canonical;
 mod cap;
 mod decoded;
-pub mod many;
-mod word_line;
 pub mod words;
 
 pub use bitflags::Flags;
@@ -13,4 +11,3 @@ pub use canonical::{Defect, is_canonical};
 pub use cap::Cap;
 pub use cc_word::{ObjType, Perms};
 pub use decoded::Decoded;
-pub use word_line::WordLine;

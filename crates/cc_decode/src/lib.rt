@@ -1,5 +1,5 @@
-//! Decodes many words, of text, of raw bytes or of a core file: the row of each. Also the row of one word, and a copy
-//! of a text with the line of each word after the word.
+//! Decodes many words, of text, of raw bytes or of a core file: the row of each. Also the row of one word, a copy
+//! of a text with the line of each word after the word, and the batch functions on words of a slice.
 #![tactic(auto)]
 
 mod annotating;
@@ -9,6 +9,7 @@ mod decoder;
 mod decoding;
 mod elf;
 mod entries;
+pub mod many;
 mod one_row;
 mod options;
 mod places;

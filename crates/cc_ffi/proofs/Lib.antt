@@ -1,4 +1,5 @@
 pub mod PaddingLemmas
+pub mod DigitLemmas
 pub mod FieldsLemmas
 pub mod RuleLemmas
 pub mod WindowLemmas

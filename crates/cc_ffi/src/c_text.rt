@@ -7,7 +7,7 @@ ghost use Rattle.cc_ffi.specs.Numbers.{number_of_halves};
 
 use crate::halves::{halves, number};
 use crate::structs::ReadWord;
-use cc_cap::WordLine;
+use crate::word_line::WordLine;
 
 /// Returns the word that 32 hexadecimal digits of either case parse as. No other bytes parse as a
 /// word.

@@ -21,3 +21,4 @@ mod measures;
 mod search;
 mod structs;
 mod version;
+mod word_line;

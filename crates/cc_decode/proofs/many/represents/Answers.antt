@@ -1,7 +1,7 @@
 use Rattle.std.proofs.Common.{slice_index, arith}
 use Rattle.cc_cap.specs.Many.{TellsRepresentable}
 use Rattle.cc_cap.proofs.ManyLemmas.{answers_more}
-use Rattle.cc_cap.proofs.many.represents.Goals as goal
+use Rattle.cc_decode.proofs.many.represents.Goals as goal
 
 pub loop-i-preserved : goal.loop-i-preserved
 loop-i-preserved c =

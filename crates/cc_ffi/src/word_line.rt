@@ -5,8 +5,8 @@ ghost use Rattle.cc_word.specs.declared.fields.Fields.{Fields as FieldsSpec};
 ghost use Rattle.cc_word.specs.Permissions.{bits_of};
 ghost use Rattle.cc_cap.specs.LineText.{HasDigits, IsWordLine, letter_of, letters_of, word_line_of, marks_of};
 
-use bitflags::Flags;
 use cc_bounds::{Span, decode};
+use cc_cap::Flags;
 use cc_word::{Fields, Perms, SENTRY_TYPE, UNSEALED_TYPE, unpack, write_word_fast};
 use std::marker::Model;
 
@@ -15,14 +15,14 @@ const ROOM: usize = 96;
 
 /// The one-line form of a word: at most 95 bytes, which are stored in the value itself.
 #[derive(Drop)]
-pub struct WordLine {
+pub(crate) struct WordLine {
     room: [u8; ROOM],
     len: usize,
 }
 
 impl Model for WordLine {
     ghost use Rattle.std.specs.Prelude.{ℕ, ◌<◌, List, take};
-    ghost use Rattle.cc_cap.specs.declared.word_line.TheConstants.{ROOM};
+    ghost use Rattle.cc_ffi.specs.declared.word_line.TheConstants.{ROOM};
 
     ghost Value = { List ℕ };
 
@@ -41,7 +41,7 @@ impl WordLine {
     ///
     /// LOAD is `r`, STORE `w`, EXECUTE `x`, LOAD_CAP `R`, and STORE_CAP `W`. The other permissions
     /// have no letter. A type other than unsealed and sentry is sealed, including reserved types.
-    pub fn of_word(word: u128, tagged: bool) -> WordLine
+    pub(crate) fn of_word(word: u128, tagged: bool) -> WordLine
         ensures { IsWordLine word tagged result }
     {
         let fields = unpack(word);
@@ -52,7 +52,7 @@ impl WordLine {
     }
 
     /// Returns the bytes of the line.
-    pub fn bytes(&self) -> &[u8]
+    pub(crate) fn bytes(&self) -> &[u8]
         ensures value { result.now ≡ self.now }
         ensures fits { length result.now < 96 }
     {

@@ -21,7 +21,7 @@ pub fn decode(words: &[u128], spans: &mut [Span])
     }
 }
 
-/// Writes whether each word is canonical, as [`crate::is_canonical`] returns it.
+/// Writes whether each word is canonical, as [`cc_cap::is_canonical`] returns it.
 ///
 /// Requires: `words` and `answers` have the same length.
 pub fn is_canonical(words: &[u128], answers: &mut [bool])
@@ -30,7 +30,7 @@ pub fn is_canonical(words: &[u128], answers: &mut [bool])
         (length words.now) }
 {
     for (i, answer) in answers.iter_mut().enumerate() {
-        *answer = crate::is_canonical(words[i]);
+        *answer = cc_cap::is_canonical(words[i]);
     }
 }
 

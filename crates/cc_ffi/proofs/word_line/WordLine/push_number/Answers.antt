@@ -1,7 +1,7 @@
 use Rattle.std.proofs.Common.{◌∙◌, sym, ap, arith, ℕ, List, [], ◌∷◌, ◌++◌, append_assoc, false}
 use Rattle.std.specs.Fmt.{digits}
 use Rattle.cc_word.proofs.DigitLemmas.{digits-count, last_digits}
-use Rattle.cc_cap.proofs.word_line.WordLine.push_number.Goals as goal
+use Rattle.cc_ffi.proofs.word_line.WordLine.push_number.Goals as goal
 
 pub returns-clause-value : goal.returns-clause-value
 returns-clause-value c =

@@ -2,7 +2,7 @@ use Rattle.std.proofs.Common.{IsTrue, ◌↔◌, Option, Some, None, ap, subst, 
 use Rattle.cc_word.specs.declared.fields.Fields.{Fields}
 use Rattle.cc_bounds.specs.Window.{Represents}
 use Rattle.cc_bounds.specs.Encoding.{Encoding, StoresSpan}
-use Rattle.cc_cap.proofs.many.represented.Goals as goal
+use Rattle.cc_decode.proofs.many.represented.Goals as goal
 
 -- the encoding of an option, or another if there is none
 abbrev encoding_or : Encoding → Option Encoding → Encoding

@@ -1,7 +1,7 @@
 use Rattle.std.proofs.Common.{◌↔◌, IsTrue, slice_index, arith}
 use Rattle.cc_cap.specs.Canonical.{IsCanonical}
 use Rattle.cc_cap.proofs.ManyLemmas.{answers_more}
-use Rattle.cc_cap.proofs.many.is_canonical.Goals as goal
+use Rattle.cc_decode.proofs.many.is_canonical.Goals as goal
 
 pub loop-i-preserved : goal.loop-i-preserved
 loop-i-preserved c =
