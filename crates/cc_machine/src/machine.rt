@@ -91,10 +91,11 @@ impl Machine {
             parent: None,
             owner: 0,
         });
-        let planner = Planner::with_limit(alloc, limit)?;
         let object_slots = Vec::with_capacity(alloc, limit as usize)?;
         let mut slot_counts = Vec::with_capacity(alloc, limit as usize)?;
         slot_counts.push_reserved(1);
+        // last, so that no failure after it drops a planner
+        let planner = Planner::with_limit(alloc, limit)?;
         Ok(Machine {
             limit,
             slots,

@@ -39,7 +39,7 @@ opened limit none slots first plan own none_counted counts is_none is_root is_sl
       counted = CountsSlots-initial root refl;
     })
 
-facts : (c : goal.After-push_reserved-2) → IsOpened c.args.limit c.push_reserved.new.self.items c.in_ok-planner.planner c.in_ok-object_slots.object_slots.items c.push_reserved-2.new.self.items
+facts : (c : goal.In_ok-planner) → IsOpened c.args.limit c.push_reserved.new.self.items c.in_ok-planner.planner c.in_ok-object_slots.object_slots.items c.push_reserved-2.new.self.items
 facts c =
     opened c.args.limit c.in_ok-slots.slots.items c.push_reserved.new.self.items
     (record { capability = c.root.result; parent = None; owner = 0 }) c.in_ok-planner.planner
