@@ -298,6 +298,7 @@ class Half:
         self.name, self.cases, self.names = name, cases, PAIR[:2] if name == "word" else PAIR[2:]
         self.names = {*map(str, self.names)}
         self.base, self.top, _ = model.decode(f)
+        self.address = wide(f.address, 65)
         self.meaning = {"canonical": functions.canonical(f), "in_bounds": functions.in_bounds(f), "from_base": z3.UGE(f.address, self.base)}
         self.facts = {it: z3.Bool(f"{name}_{it}") for it in self.meaning}
         self.base_is, self.top_is = z3.BitVec(f"{name}_base", 64), z3.BitVec(f"{name}_top", 65)
@@ -309,8 +310,9 @@ class Half:
         return [(self.meaning[it], self.facts[it]) for it in self.facts] + [(self.base, self.base_is), (self.top, self.top_is)]
 
     def parts(self):
-        low, high = (bits(self.top, 63, 0), bits(self.top_is, 63, 0)), (bits(self.top, 64, 64), bits(self.top_is, 64, 64))
-        return [(self.base, self.base_is), (self.top, self.top_is), low, high]
+        ends = [(self.top - self.address, self.top_is - self.address), (self.top, self.top_is)]
+        halves = [tuple(bits(it, *place) for it in end) for place in ((64, 64), (63, 0)) for end in ends]
+        return [(self.base, self.base_is), *ends, *halves]
 
 
 def between(terms, half):
@@ -334,8 +336,8 @@ def between(terms, half):
 
 def two_words(name, ends, wanted):
     """Functions of two words. The conditions on one word alone prove facts about it, with its exponent known: whether it is canonical,
-    whether its address is in its bounds, and that a term of the code is its base or its top. Then these are names, and the others are
-    bits that are compared, without shifts."""
+    whether its address is in its bounds, or above its top, and that a term of the code is its base, its top, or the number of bytes from the
+    address up to the top. Then these are names, and the others are bits that are compared, without shifts."""
     halves = [Half(functions.WORD, "word", CASES["word"]), Half(functions.OTHER, "other", CASES["other"])]
     places = [it for half in halves for it in half.abstract()]
     wanted = {field: z3.substitute(term, *places) for field, term in wanted.items()}
@@ -364,6 +366,10 @@ def two_words(name, ends, wanted):
                         facts.append(fact)
                     elif follows(own, z3.Not(half.meaning[it]), half):
                         facts.append(z3.Not(fact))
+            if str(half.top_is) in used:
+                for order in (z3.ULE, z3.UGT):
+                    if follows(own, order(half.address, half.top), half):
+                        facts.append(order(half.address, half.top_is))
             if used & {str(half.base_is), str(half.top_is)}:
                 for term in between([*path, *fields.values()], half):
                     for meaning, is_named in half.parts():
