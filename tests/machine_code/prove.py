@@ -159,6 +159,16 @@ def ends_of(image, name):
     return ends
 
 
+def have_same_terms(ends, others):
+    """Whether two functions have the same ends, term by term."""
+
+    def terms(path, fields):
+        return [*path, *(fields[it] for it in sorted(fields))]
+
+    pairs = [(terms(*end), terms(*other)) for end, other in zip(ends, others)]
+    return len(ends) == len(others) and all(len(one) == len(other) and all(map(z3.eq, one, other)) for one, other in pairs)
+
+
 def merged(ends, field, at=0):
     """A field as one term: its value at the end that is reached. The paths are a tree: at each place a condition, or its opposite. One
     that all ends have, or that makes no difference, is left out."""
@@ -310,9 +320,10 @@ class Half:
         return [(self.meaning[it], self.facts[it]) for it in self.facts] + [(self.base, self.base_is), (self.top, self.top_is)]
 
     def parts(self):
-        ends = [(self.top - self.address, self.top_is - self.address), (self.top, self.top_is)]
-        halves = [tuple(bits(it, *place) for it in end) for place in ((64, 64), (63, 0)) for end in ends]
-        return [(self.base, self.base_is), *ends, *halves]
+        # on some paths a term is several of these: the bytes from the address up to the top say more than the top does
+        numbers = [(self.top - self.address, self.top_is - self.address), (self.top, self.top_is)]
+        pieces = [tuple(bits(it, *place) for it in number) for place in ((64, 64), (63, 0)) for number in numbers]
+        return [(self.base, self.base_is), *numbers, *pieces]
 
 
 def between(terms, half):
