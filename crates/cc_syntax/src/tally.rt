@@ -93,12 +93,14 @@ fn is_full(refusal: Refusal) -> bool
     Refusal::Full.code() == refusal.code()
 }
 
-/// Returns the number of the first line that passes, after one more line: `first`, or if that is 0
-/// the number of the new line, if it passes.
-fn first_after(first: u64, passes: bool, number: u64) -> u64
-    ensures { result ≡ first_after first passes number }
+/// Sets the number of the first line that passes to that of one more line, if this line passes and
+/// none before it did, so that the number is 0.
+fn note_first(first: &mut u64, passes: bool, number: u64)
+    ensures { first.new ≡ first_after first.old passes number }
 {
-    if first == 0 && passes { number } else { first }
+    if passes && *first == 0 {
+        *first = number;
+    }
 }
 
 /// Counts one more reply that is this refusal, to the line with this number. The number of a setup
@@ -155,8 +157,8 @@ impl Tally {
     {
         self.lines = self.lines.saturating_add(1);
         add_reply(&mut self.counts, refusal, self.lines);
-        self.full = first_after(self.full, is_full(refusal), self.lines);
-        self.carriage_return = first_after(self.carriage_return, ends_in_return(start), self.lines);
-        self.marked_word = first_after(self.marked_word, has_marked_word(start), self.lines);
+        note_first(&mut self.full, is_full(refusal), self.lines);
+        note_first(&mut self.carriage_return, ends_in_return(start), self.lines);
+        note_first(&mut self.marked_word, has_marked_word(start), self.lines);
     }
 }
