@@ -71,6 +71,7 @@ impl Placer for GapPlacer {
         Some(start)
     }
 
+    #[inline(always)]
     fn find(&self, len: u128, align: u64) -> Option<(u64, Hint)> {
         self.row.first_fit(len, align)
     }
@@ -85,6 +86,7 @@ impl Placer for GapPlacer {
         self.count += 1;
     }
 
+    #[inline(always)]
     fn give_back(&mut self, span: Span) {
         give(&mut self.row, span);
         self.count -= 1;
