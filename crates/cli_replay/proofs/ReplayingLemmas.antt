@@ -67,11 +67,9 @@ Swept begun traffic result kind = OnDevices (SumsUp (GroupReplays begun) any_ran
 abbrev pub Written : Settings → (others : List Policy) → Reading → Traffic → Result Summary Fault → ReplayOutput → Type 0
 Written settings others reading traffic result kind = OnDevices (ReplaysEach kind settings others reading traffic) result
 
--- A claim that follows for an output and a taker before the first line follows for an equal output and an equal taker.
-pub by_output : {S : Type 0} (P : S → ReplayOutput → Type 0) (Q : ReplayOutput → Type 0) (kind other : ReplayOutput) (taker begun : S) → kind ≡ other → taker ≡ begun
-    → (P begun other → Q other) → P taker kind → Q kind
-by_output {S} P Q kind other taker begun is begins so holds =
-    subst (λ (output : ReplayOutput). P begun output → Q output) (sym is) so (subst (λ (state : S). P state kind) begins holds)
+-- A claim that follows for an output follows for an equal one.
+pub by_output : (P Q : ReplayOutput → Type 0) (kind other : ReplayOutput) → kind ≡ other → (P other → Q other) → P kind → Q kind
+by_output P Q kind other is so = subst (λ (output : ReplayOutput). P output → Q output) (sym is) so
 
 -- The summary of one heap, if there is no other policy.
 pub alone : (format : SummaryFormat) (settings : Settings) (others : List Policy) (reading : Reading) (traffic : Traffic) (result : Result Summary Fault)

@@ -102,28 +102,22 @@ fn replay_source<M: TraceMemory, S: Source, W: Sink>(
 {
     match request.output {
         ReplayOutput::Chart => {
-            let mut charting: Charting<GapPlacer> = memory.begin(request)?;
-            write_at_end(memory, &mut charting, request, source, sink)
+            write_at_end::<Charting<GapPlacer>, M, S, W>(memory, request, source, sink)
         }
         ReplayOutput::Script => {
-            let mut script: Script<GapPlacer> = memory.begin(request)?;
-            write_script(memory, &mut script, source, sink)
+            write_script::<Script<GapPlacer>, M, S, W>(memory, request, source, sink)
         }
         ReplayOutput::Series(_) => {
-            let mut replay: Replay<GapPlacer> = memory.begin(request)?;
-            write_series(memory, &mut replay, request, source, sink)
+            write_series::<Replay<GapPlacer>, M, S, W>(memory, request, source, sink)
         }
         ReplayOutput::Sizes(_) => {
-            let mut replay: Replay<GapPlacer> = memory.begin(request)?;
-            write_at_end(memory, &mut replay, request, source, sink)
+            write_at_end::<Replay<GapPlacer>, M, S, W>(memory, request, source, sink)
         }
         ReplayOutput::Summary(_) => {
             if request.others.as_slice().is_empty() {
-                let mut replay: Replay<GapPlacer> = memory.begin(request)?;
-                return write_at_end(memory, &mut replay, request, source, sink);
+                return write_at_end::<Replay<GapPlacer>, M, S, W>(memory, request, source, sink);
             }
-            let mut group: ReplayGroup<GapPlacer> = memory.begin(request)?;
-            write_at_end(memory, &mut group, request, source, sink)
+            write_at_end::<ReplayGroup<GapPlacer>, M, S, W>(memory, request, source, sink)
         }
     }
 }
@@ -131,21 +125,20 @@ fn replay_source<M: TraceMemory, S: Source, W: Sink>(
 /// Takes a trace, and writes its output at the end.
 fn write_at_end<T: TracePrinter, M: TraceMemory, S: Source, W: Sink>(
     memory: &mut M,
-    taker: &mut T,
     request: &ReplayRequest<'_>,
     source: &mut S,
     sink: &mut W,
 ) -> Result<Summary, Fault>
-    requires memory { M.has_failed memory.old ≡ false }
-    requires goes_on { T.is_over taker.old ≡ false }
+    requires settings { T.IsFor request.now.settings }
     requires source { (S.state source.old).has_failed ≡ false }
     requires sink { (W.state sink.old).has_failed ≡ false }
     ensures sums_up { OnStreams (S.state source.old) (S.state source.new) (W.state sink.old) (W.state sink.new)
-        (SumsUp (T.Takes taker.old) T.ran_out (T.text request.now)) result }
+        (SumsUp (T.Takes (T.begun request.now)) T.ran_out (T.text request.now)) result }
     ensures starved { result ≡ Err Fault.Memory → (W.state sink.new).taken ≡ (W.state sink.old).taken }
     ensures allocates { (result ≡ Err Fault.Memory) ↔ (M.has_failed memory.new ≡ true) }
     ensures end { IsEnd false (S.state source.new) (W.state sink.old) (W.state sink.new) result }
 {
+    let mut taker: T = memory.begin(request)?;
     // without a series, a taker writes nothing before the end of the trace
     let summary = taker.take(source, &mut Discard)?;
     memory.fail_if(taker.has_run_out())?;
@@ -156,20 +149,19 @@ fn write_at_end<T: TracePrinter, M: TraceMemory, S: Source, W: Sink>(
 /// Takes a trace, and writes its series.
 fn write_series<T: TracePrinter, M: TraceMemory, S: Source, W: Sink>(
     memory: &mut M,
-    taker: &mut T,
     request: &ReplayRequest<'_>,
     source: &mut S,
     sink: &mut W,
 ) -> Result<Summary, Fault>
-    requires memory { M.has_failed memory.old ≡ false }
-    requires goes_on { T.is_over taker.old ≡ false }
+    requires settings { T.IsFor request.now.settings }
     requires source { (S.state source.old).has_failed ≡ false }
     requires sink { (W.state sink.old).has_failed ≡ false }
     ensures samples { OnStreams (S.state source.old) (S.state source.new) (W.state sink.old) (W.state sink.new)
-        (Samples (T.Takes taker.old) T.ran_out (T.text request.now)) result }
+        (Samples (T.Takes (T.begun request.now)) T.ran_out (T.text request.now)) result }
     ensures allocates { (result ≡ Err Fault.Memory) ↔ (M.has_failed memory.new ≡ true) }
     ensures end { IsEnd false (S.state source.new) (W.state sink.old) (W.state sink.new) result }
 {
+    let mut taker: T = memory.begin(request)?;
     let summary = taker.take(source, sink)?;
     memory.fail_if(taker.has_run_out())?;
     taker.write_end(request, sink)?;
@@ -179,19 +171,19 @@ fn write_series<T: TracePrinter, M: TraceMemory, S: Source, W: Sink>(
 /// Takes a trace, and writes its script.
 fn write_script<T: TraceTaker, M: TraceMemory, S: Source, W: Sink>(
     memory: &mut M,
-    taker: &mut T,
+    request: &ReplayRequest<'_>,
     source: &mut S,
     sink: &mut W,
 ) -> Result<Summary, Fault>
-    requires memory { M.has_failed memory.old ≡ false }
-    requires goes_on { T.is_over taker.old ≡ false }
+    requires settings { T.IsFor request.now.settings }
     requires source { (S.state source.old).has_failed ≡ false }
     requires sink { (W.state sink.old).has_failed ≡ false }
     ensures scripts { OnStreams (S.state source.old) (S.state source.new) (W.state sink.old) (W.state sink.new)
-        (Scripts (T.Takes taker.old) T.ran_out) result }
+        (Scripts (T.Takes (T.begun request.now)) T.ran_out) result }
     ensures allocates { (result ≡ Err Fault.Memory) ↔ (M.has_failed memory.new ≡ true) }
     ensures end { IsEnd false (S.state source.new) (W.state sink.old) (W.state sink.new) result }
 {
+    let mut taker: T = memory.begin(request)?;
     let summary = taker.take(source, sink)?;
     memory.fail_if(taker.has_run_out())?;
     Ok(summary)
