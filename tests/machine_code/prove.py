@@ -45,14 +45,21 @@ def never(term, where, cases=(("", (), None),)):
         refute(z3.simplify(z3.substitute(one, *places) if places else one), f"{where}{name and f' at {name}'}", places)
 
 
-def is_always(term, cases):
-    try:
-        never(z3.Not(term), "", cases)
-    except NotProved as error:
-        if error.found is None:
-            raise
-        return False
-    return True
+def following(own, facts, cases):
+    """Returns what stands beside those facts that hold wherever all of `own` do: of all that are left z3 is asked together, and those
+    that are false for the input that it finds are dropped."""
+    left = [*facts]
+    for case in cases:
+        while left:
+            try:
+                never(z3.And(*own, z3.Not(z3.And(*[fact for fact, _ in left]))), "", [case])
+                break
+            except NotProved as error:
+                if error.found is None:
+                    raise
+                there = [z3.substitute(fact, *error.places) if error.places else fact for fact, _ in left]
+                left = [it for it, fact in zip(left, there) if z3.is_true(error.found.eval(fact, True))]
+    return [what for _, what in left]
 
 
 # ---- the cases
@@ -230,7 +237,11 @@ def of_request(code, wanted, base, *known):
 
     def facts(found, case):
         """Returns those conditions that are one of the facts in a case, or its opposite."""
-        return [(it, fact, is_so) for it, fact, is_so in found if is_always(it == (fact if is_so else z3.Not(fact)), given(case, *needs[fact]))]
+        here = []
+        for one in needs:
+            equal = [(it == (fact if is_so else z3.Not(fact)), (it, fact, is_so)) for it, fact, is_so in found if fact.eq(one)]
+            here += following([], equal, given(case, *needs[one]))
+        return here
 
     needs, combinations = {g.in_range: [], g.grows: [g.in_range]}, [[g.in_range, g.grows], [g.in_range], []]
     if g.in_range in known:
@@ -355,14 +366,16 @@ def two_words(name, ends, wanted):
     used = set().union(*map(variables, wanted.values()))
     known, are_named = {}, used & {str(it) for half in halves for it in (half.base_is, half.top_is)}
 
-    def follows(own, term, half):
+    def held(own, facts, half):
+        """Returns the numbers of those facts that follow from conditions on one word."""
+        # what follows from the first ones does so on other paths. For the many terms that are compared with bounds it does not pay
+        before = held(own[:-1], facts, half) if own and not are_named else set()
         # the terms are kept with what z3 said, so that it gives their numbers to no others
-        key = *sorted(it.get_id() for it in own), term.get_id()
-        if key not in known:
-            # what follows from the first ones does so on other paths. For the many terms that are compared with bounds it does not pay
-            is_so = own and not are_named and follows(own[:-1], term, half)
-            known[key] = is_so or is_always(z3.Implies(z3.And(*own), term), half.cases), own, term
-        return known[key][0]
+        key = tuple(it.get_id() for it in own)
+        asked = [it for it in facts if it.get_id() not in before and (key, it.get_id()) not in known]
+        found = {it.get_id() for it in following(own, [(it, it) for it in asked], half.cases)}
+        known.update({(key, it.get_id()): (it.get_id() in found, own, it) for it in asked})
+        return before | {it.get_id() for it in facts if it.get_id() not in before and known[key, it.get_id()][0]}
 
     most = bv(model.TWO64, 65)
     for half in halves:
@@ -371,23 +384,23 @@ def two_words(name, ends, wanted):
         facts, places = [z3.Implies(half.facts["canonical"], z3.ULE(half.top_is, most)) for half in halves], []
         for half in halves:
             own = [it for it in path if half.owns(it)]
+            # of what is asked about the same, the first that follows is taken
+            asked = []
             for it, fact in half.facts.items():
                 if str(fact) in used:
-                    if follows(own, half.meaning[it], half):
-                        facts.append(fact)
-                    elif follows(own, z3.Not(half.meaning[it]), half):
-                        facts.append(z3.Not(fact))
+                    asked += [(it, half.meaning[it], facts, fact), (it, z3.Not(half.meaning[it]), facts, z3.Not(fact))]
             if str(half.top_is) in used:
-                for order in (z3.ULE, z3.UGT):
-                    if follows(own, order(half.address, half.top), half):
-                        facts.append(order(half.address, half.top_is))
+                asked += [(order, order(half.address, half.top), facts, order(half.address, half.top_is)) for order in (z3.ULE, z3.UGT)]
             if used & {str(half.base_is), str(half.top_is)}:
                 for term in between([*path, *fields.values()], half):
-                    for meaning, is_named in half.parts():
-                        size = term.size()
-                        if meaning.size() <= size and follows(own, term == wide(meaning, size), half):
-                            places.append((term, wide(is_named, size)))
-                            break
+                    size = term.size()
+                    parts = [(wide(meaning, size), wide(is_named, size)) for meaning, is_named in half.parts() if meaning.size() <= size]
+                    asked += [(term.get_id(), term == meaning, places, (term, is_named)) for meaning, is_named in parts]
+            so, taken = held(own, [it for _, it, *_ in asked], half), set()
+            for about, fact, known_of, what in asked:
+                if fact.get_id() in so and about not in taken:
+                    taken.add(about)
+                    known_of.append(what)
         light = [z3.substitute(it, *places) for it in path]
         differs = z3.Or(*[z3.substitute(fields[it], *places) != wanted[it] for it in wanted])
         never(z3.And(*facts, *filter(is_light, light), differs), "the result")
