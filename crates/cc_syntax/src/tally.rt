@@ -93,8 +93,8 @@ fn is_full(refusal: Refusal) -> bool
     Refusal::Full.code() == refusal.code()
 }
 
-/// Sets the number of the first line that passes to that of one more line, if this line passes and
-/// none before it did, so that the number is 0.
+/// Sets `first`, the number of the first line that passes or 0, to that of one more line, if this passes
+/// and `first` is 0.
 fn note_first(first: &mut u64, passes: bool, number: u64)
     ensures { first.new ≡ first_after first.old passes number }
 {
