@@ -58,7 +58,9 @@ def following(own, facts, cases):
                 if error.found is None:
                     raise
                 there = [z3.substitute(fact, *error.places) if error.places else fact for fact, _ in left]
-                left = [it for it, fact in zip(left, there) if z3.is_true(error.found.eval(fact, True))]
+                kept = [it for it, fact in zip(left, there) if z3.is_true(error.found.eval(fact, True))]
+                assert len(kept) < len(left)
+                left = kept
     return [what for _, what in left]
 
 
@@ -397,10 +399,10 @@ def two_words(name, ends, wanted):
                     parts = [(wide(meaning, size), wide(is_named, size)) for meaning, is_named in half.parts() if meaning.size() <= size]
                     asked += [(term.get_id(), term == meaning, places, (term, is_named)) for meaning, is_named in parts]
             so, taken = held(own, [it for _, it, *_ in asked], half), set()
-            for about, fact, known_of, what in asked:
+            for about, fact, into, what in asked:
                 if fact.get_id() in so and about not in taken:
                     taken.add(about)
-                    known_of.append(what)
+                    into.append(what)
         light = [z3.substitute(it, *places) for it in path]
         differs = z3.Or(*[z3.substitute(fields[it], *places) != wanted[it] for it in wanted])
         never(z3.And(*facts, *filter(is_light, light), differs), "the result")
