@@ -5,11 +5,11 @@ import re
 import capstone
 import z3
 from capstone import arm64_const as c
-from lift import LANED, STACK, Lifter, Refused, bit_of, laned, lanes, low, pointer, signed, top_bit, unknown, vector, wide
+from lift import LANED, STACK, Lifter, Refused, bit_of, laned, lanes, low, pointer, signed, signed_right, top_bit, unknown, vector, wide
 from model import bits, bv
 
 ALIASES = {"fp": "x29", "lr": "x30"}
-SHIFTS = {c.ARM64_SFT_LSL: lambda a, n: a << n, c.ARM64_SFT_LSR: z3.LShR, c.ARM64_SFT_ASR: lambda a, n: a >> n}
+SHIFTS = {c.ARM64_SFT_LSL: lambda a, n: a << n, c.ARM64_SFT_LSR: z3.LShR, c.ARM64_SFT_ASR: signed_right}
 # a vector of 128 bits, its lowest part, or a lane, and the bits of a lane by its letter
 GENERAL = re.compile(r"[xw]([12]?\d|30)")
 VIEW = re.compile(r"\{?([vqds])(\d+)(?:\.(16b|2d|d)(?:\[(\d)\])?)?\}?")

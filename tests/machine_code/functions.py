@@ -99,7 +99,7 @@ def decode():
 
 
 def word_length():
-    base, top, _ = model.decode(WORD)
+    base, top, _ = model.decode_short(WORD)
     return halves(ext(top, 128) - ext(base, 128))
 
 
@@ -143,7 +143,7 @@ def alignment_mask():
 
 def keeps_bounds(f, address):
     """Whether the word decodes to the same bounds with that address: whether that is in the window, by the lemma same_bounds."""
-    base, _, e = model.decode(f)
+    base, _, e = model.decode_short(f)
     return model.in_window(base, e, address)
 
 
@@ -157,14 +157,14 @@ def represents():
 
 
 def window():
-    base, _, e = model.decode(WORD)
+    base, _, e = model.decode_short(WORD)
     start, size = model.window(base, e)
     is_every = z3.UGE(e, 50)
     return {"first": whole(z3.Not(is_every), bits(start, 63, 0)), "last": z3.If(is_every, bv(-1, 64), bits(start + size - 1, 63, 0))}
 
 
 def subset(f, outer):
-    (base, top, _), (outer_base, outer_top, _) = model.decode(f), model.decode(outer)
+    (base, top, _), (outer_base, outer_top, _) = model.decode_short(f), model.decode_short(outer)
     return z3.And(z3.UGE(base, outer_base), z3.ULE(top, outer_top), f.perms & ~outer.perms == 0)
 
 
@@ -176,7 +176,7 @@ def canonical(f):
 
 
 def in_bounds(f):
-    base, top, _ = model.decode(f)
+    base, top, _ = model.decode_short(f)
     return z3.And(z3.UGE(f.address, base), z3.ULT(ext(f.address, 65), top))
 
 
@@ -376,7 +376,7 @@ INLINE = {
     **{f"word_to_bytes_{is_big}": word_to_bytes(is_big) for is_big in (0, 1)},
     "bounds_hold": value(1, [BOUNDS, NUMBER], lambda: byte(holds(NUMBER, 1))),
     "bounds_hold_bytes": value(1, [BOUNDS, NUMBER, LOW], lambda: byte(holds(NUMBER, LOW))),
-    "set_offset": Function([*HALVES, NUMBER], MADE, lambda: moved(model.decode(WORD)[0] + NUMBER), "word"),
+    "set_offset": Function([*HALVES, NUMBER], MADE, lambda: moved(model.decode_short(WORD)[0] + NUMBER), "word"),
     "with_address": Function([*HALVES, NUMBER], U128, lambda: {"high": HIGH, "low": NUMBER}),
     "with_perms": Function([*HALVES, (NUMBER, 16, 16)], U128, lambda: {"high": changed(WORD, perms=bits(NUMBER, 15, 0)), "low": LOW}),
     "with_flag": Function([*HALVES, BOOL], U128, lambda: {"high": changed(WORD, flag=bits(NUMBER, 0, 0)), "low": LOW}),

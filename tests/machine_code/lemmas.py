@@ -16,6 +16,11 @@ def short():
     return z3.And(reason == short_reason, stored == short_stored), "word"
 
 
+def short_decode():
+    """The short form of decoding gives the base, the top and the exponent."""
+    return z3.And(*[one == other for one, other in zip(model.decode(WORD), model.decode_short(WORD))]), "word"
+
+
 def same_bounds():
     """A word decodes to the same bounds with another address if and only if that is in its window."""
     (base, top, e), (other_base, other_top, _) = model.decode(WORD), model.decode(WORD, NUMBER)
@@ -111,5 +116,6 @@ def shrinks(name):
     return lemma
 
 
-LEMMAS = {it.__name__: it for it in (short, same_bounds, first_to_last, derivable, covers, decodes, sound, rounds, stores, tightest, least)}
+PROVED = short, short_decode, same_bounds, first_to_last, derivable, covers, decodes, sound, rounds, stores, tightest, least
+LEMMAS = {it.__name__: it for it in PROVED}
 LEMMAS |= {f"shrinks_{name}": shrinks(name) for name in "set_address increment and_perms set_flag seal unseal".split()}

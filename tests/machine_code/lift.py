@@ -62,6 +62,14 @@ def signed(term, size):
     return term if term.size() == size else z3.SignExt(size - term.size(), term)
 
 
+def signed_right(term, count):
+    """Returns term >> count: for a constant count as bits, of which z3 knows more."""
+    count = z3.simplify(count)
+    if z3.is_bv_value(count) and count.as_long() < term.size():
+        return signed(bits(term, term.size() - 1, count.as_long()), term.size())
+    return term >> count
+
+
 def top_bit(term):
     return bits(term, term.size() - 1, term.size() - 1) == 1
 

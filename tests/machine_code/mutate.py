@@ -33,7 +33,7 @@ MODEL = (
     ("bv(-1, 32), z3.If(one", "bv(1, 32), z3.If(one", "compare"),
     ("z3.ULE(end, ext(TOP, 130))", "z3.ULT(end, ext(TOP, 130))", "bounds_hold"),
     ("z3.ULE(end, bv(model.TWO64, 130))", "z3.ULT(end, bv(model.TWO64, 130))", "bounds_hold_bytes"),
-    ("model.decode(WORD)[0] + NUMBER", "LOW + NUMBER", "set_offset"),
+    ("model.decode_short(WORD)[0] + NUMBER", "LOW + NUMBER", "set_offset"),
 )
 # the borrow is left out of the carry of sbb and sbc
 LIFTER = {

@@ -45,20 +45,20 @@ def never(term, where, cases=(("", (), None),)):
         refute(z3.simplify(z3.substitute(one, *places) if places else one), f"{where}{name and f' at {name}'}", places)
 
 
-def following(own, facts, cases):
-    """Returns what stands beside those facts that hold wherever all of `own` do: of all that are left z3 is asked together, and those
-    that are false for the input that it finds are dropped."""
-    left = [*facts]
+def following(asked, cases):
+    """Returns the third of each triple whose second, a fact, holds wherever all of its first do: of all that are left z3 is asked together, and
+    those that are false for the input that it finds are dropped."""
+    left = [(z3.And(*own, z3.Not(fact)), what) for own, fact, what in asked]
     for case in cases:
         while left:
             try:
-                never(z3.And(*own, z3.Not(z3.And(*[fact for fact, _ in left]))), "", [case])
+                never(z3.Or(*[fails for fails, _ in left]), "", [case])
                 break
             except NotProved as error:
                 if error.found is None:
                     raise
-                there = [z3.substitute(fact, *error.places) if error.places else fact for fact, _ in left]
-                kept = [it for it, fact in zip(left, there) if z3.is_true(error.found.eval(fact, True))]
+                there = [z3.substitute(fails, *error.places) if error.places else fails for fails, _ in left]
+                kept = [it for it, fails in zip(left, there) if z3.is_false(error.found.eval(fails, True))]
                 assert len(kept) < len(left)
                 left = kept
     return [what for _, what in left]
@@ -241,8 +241,8 @@ def of_request(code, wanted, base, *known):
         """Returns those conditions that are one of the facts in a case, or its opposite."""
         here = []
         for one in needs:
-            equal = [(it == (fact if is_so else z3.Not(fact)), (it, fact, is_so)) for it, fact, is_so in found if fact.eq(one)]
-            here += following([], equal, given(case, *needs[one]))
+            equal = [([], it == (fact if is_so else z3.Not(fact)), (it, fact, is_so)) for it, fact, is_so in found if fact.eq(one)]
+            here += following(equal, given(case, *needs[one]))
         return here
 
     needs, combinations = {g.in_range: [], g.grows: [g.in_range]}, [[g.in_range, g.grows], [g.in_range], []]
@@ -320,7 +320,7 @@ class Half:
     def __init__(self, f, name, cases):
         self.name, self.cases, self.names = name, cases, PAIR[:2] if name == "word" else PAIR[2:]
         self.names = {*map(str, self.names)}
-        self.base, self.top, _ = model.decode(f)
+        self.base, self.top, _ = model.decode_short(f)
         self.address = wide(f.address, 65)
         self.meaning = {"canonical": functions.canonical(f), "in_bounds": functions.in_bounds(f), "from_base": z3.UGE(f.address, self.base)}
         self.facts = {it: z3.Bool(f"{name}_{it}") for it in self.meaning}
@@ -366,43 +366,41 @@ def two_words(name, ends, wanted):
     places = [it for half in halves for it in half.abstract()]
     wanted = {field: z3.substitute(term, *places) for field, term in wanted.items()}
     used = set().union(*map(variables, wanted.values()))
-    known, are_named = {}, used & {str(it) for half in halves for it in (half.base_is, half.top_is)}
 
-    def held(own, facts, half):
-        """Returns the numbers of those facts that follow from conditions on one word."""
-        # what follows from the first ones does so on other paths. For the many terms that are compared with bounds it does not pay
-        before = held(own[:-1], facts, half) if own and not are_named else set()
-        # the terms are kept with what z3 said, so that it gives their numbers to no others
-        key = tuple(it.get_id() for it in own)
-        asked = [it for it in facts if it.get_id() not in before and (key, it.get_id()) not in known]
-        found = {it.get_id() for it in following(own, [(it, it) for it in asked], half.cases)}
-        known.update({(key, it.get_id()): (it.get_id() in found, own, it) for it in asked})
-        return before | {it.get_id() for it in facts if it.get_id() not in before and known[key, it.get_id()][0]}
+    def asked(half, path, fields):
+        """Returns what the conditions on one word might prove: what it is about, the fact, and what says it by the names, as a condition or as
+        the name of a term."""
+        found = []
+        for it, fact in half.facts.items():
+            if str(fact) in used:
+                found += [(fact, half.meaning[it], fact), (fact, z3.Not(half.meaning[it]), z3.Not(fact))]
+        if str(half.top_is) in used:
+            orders = [(order(half.address, half.top), order(half.address, half.top_is)) for order in (z3.ULE, z3.UGT)]
+            found += [(is_named, fact, is_named) for fact, is_named in orders]
+        if used & {str(half.base_is), str(half.top_is)}:
+            for term in between([*path, *fields.values()], half):
+                size = term.size()
+                parts = [(wide(meaning, size), wide(is_named, size)) for meaning, is_named in half.parts() if meaning.size() <= size]
+                found += [(term, term == meaning, (term, is_named)) for meaning, is_named in parts]
+        return found
 
-    most = bv(model.TWO64, 65)
+    def key(own, fact):
+        return *(it.get_id() for it in own), fact.get_id()
+
+    most, held, rows = bv(model.TWO64, 65), set(), []
     for half in halves:
         never(z3.And(half.meaning["canonical"], z3.UGT(half.top, most)), "a canonical word that ends above 2^64", half.cases)
-    for path, fields in ends:
-        facts, places = [z3.Implies(half.facts["canonical"], z3.ULE(half.top_is, most)) for half in halves], []
-        for half in halves:
-            own = [it for it in path if half.owns(it)]
+        rows.append([([it for it in path if half.owns(it)], asked(half, path, fields)) for path, fields in ends])
+        different = {key(own, fact): (own, fact) for own, about in rows[-1] for _, fact, _ in about}
+        held |= {*following([(*it, number) for number, it in different.items()], half.cases)}
+    for (path, fields), *row in zip(ends, *rows):
+        facts, places, taken = [z3.Implies(half.facts["canonical"], z3.ULE(half.top_is, most)) for half in halves], [], set()
+        for own, about in row:
             # of what is asked about the same, the first that follows is taken
-            asked = []
-            for it, fact in half.facts.items():
-                if str(fact) in used:
-                    asked += [(it, half.meaning[it], facts, fact), (it, z3.Not(half.meaning[it]), facts, z3.Not(fact))]
-            if str(half.top_is) in used:
-                asked += [(order, order(half.address, half.top), facts, order(half.address, half.top_is)) for order in (z3.ULE, z3.UGT)]
-            if used & {str(half.base_is), str(half.top_is)}:
-                for term in between([*path, *fields.values()], half):
-                    size = term.size()
-                    parts = [(wide(meaning, size), wide(is_named, size)) for meaning, is_named in half.parts() if meaning.size() <= size]
-                    asked += [(term.get_id(), term == meaning, places, (term, is_named)) for meaning, is_named in parts]
-            so, taken = held(own, [it for _, it, *_ in asked], half), set()
-            for about, fact, into, what in asked:
-                if fact.get_id() in so and about not in taken:
-                    taken.add(about)
-                    into.append(what)
+            for subject, fact, what in about:
+                if key(own, fact) in held and subject.get_id() not in taken:
+                    taken.add(subject.get_id())
+                    (places if isinstance(what, tuple) else facts).append(what)
         light = [z3.substitute(it, *places) for it in path]
         differs = z3.Or(*[z3.substitute(fields[it], *places) != wanted[it] for it in wanted])
         never(z3.And(*facts, *filter(is_light, light), differs), "the result")
@@ -427,7 +425,7 @@ def offset(_, ends, wanted):
     low = merged(made, "low")
     base = z3.simplify(z3.substitute(low, (NUMBER, bv(0, 64))))
     never(low != base + NUMBER, "the new address", CASES["word"])
-    never(base != model.decode(functions.WORD)[0], "the base", CASES["word"])
+    never(base != model.decode_short(functions.WORD)[0], "the base", CASES["word"])
     term = differing(ends, functions.moved(base + NUMBER))
     by_cases(z3.simplify(z3.substitute(term, (NUMBER, NUMBER - base))), "the result", "word")
 

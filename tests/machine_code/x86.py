@@ -5,7 +5,7 @@ import itertools
 import capstone
 import z3
 from capstone import x86_const as c
-from lift import LANED, STACK, Lifter, Refused, bit_of, laned, lanes, low, pointer, signed, top_bit, unknown, vector, wide
+from lift import LANED, STACK, Lifter, Refused, bit_of, laned, lanes, low, pointer, signed, signed_right, top_bit, unknown, vector, wide
 from model import bits, bv
 
 FULL = "rax rbx rcx rdx rsi rdi rbp rsp".split() + [f"r{n}" for n in range(8, 16)]
@@ -155,7 +155,7 @@ class X86(Lifter):
             result = a << n
             out, single = bits(wide(a, 2 * size) << wide(n, 2 * size), size, size) == 1, top_bit(result) != top_bit(a)
         else:
-            by = z3.LShR if name == "shr" else lambda term, number: term >> number
+            by = z3.LShR if name == "shr" else signed_right
             result = by(a, n)
             out = bits(by(z3.Concat(a, bv(0, 1)), wide(n, size + 1)), 0, 0) == 1
             single = top_bit(a) if name == "shr" else z3.BoolVal(False)
