@@ -168,6 +168,6 @@ low_bits_shifted n exponent fits =
     ∙ ap (λ (k : ℕ). k % 2 ^ 12) (mul-add-div_right (pow_pos exponent) (upper * 2 ^ 12) (n % 2 ^ 64))
     ∙ mul-add-mod_self_right upper (2 ^ 12) (n % 2 ^ 64 / 2 ^ exponent))
 
--- the same, as masks
-pub low_bits_masked : (n exponent : ℕ) → exponent ≤ 52 → bit_and (bit_and n (2 ^ 64 - 1) / 2 ^ exponent) (2 ^ 12 - 1) ≡ n / 2 ^ exponent % 2 ^ 12
-low_bits_masked n exponent fits = rw (and_mask _ 12, and_mask n 64) (low_bits_shifted n exponent fits)
+-- the same, as a mask
+pub low_bits_masked : (n low exponent : ℕ) → low ≡ n % 2 ^ 64 → exponent ≤ 52 → bit_and (low / 2 ^ exponent) (2 ^ 12 - 1) ≡ n / 2 ^ exponent % 2 ^ 12
+low_bits_masked n low exponent is fits = rw (is, and_mask _ 12) (low_bits_shifted n exponent fits)

@@ -46,9 +46,16 @@ t_of span = span.top / 2 ^ exponent_of span % 2 ^ 12 + exponent_of span / 8
 abbrev pub b_of : Span → ℕ
 b_of span = span.base / 2 ^ exponent_of span % 2 ^ 14 + exponent_of span % 8
 
+-- The low 64 bits of the top of a span, as a `Set` stores it.
+unfoldable pub low_top_of : Span → ℕ
+low_top_of span = span.top % 2 ^ 64
+
+-- The other bits of the top, of which the lowest alone can be set.
+unfoldable pub high_top_of : Span → ℕ
+high_top_of span = span.top / 2 ^ 64
+
 -- `IsEncoding` holds if a `Set` can store these values: a sound span, and the exponent and the
--- bounds fields that the span determines, each within its width. It is for the model of `Set`
--- alone.
+-- bounds fields that the span determines, each within its width. No public clause cites it.
 pub record IsEncoding (span : Span) (e : ℕ) (ie : Bool) (t b : ℕ) : Type 0 where
   pub is_span : IsSpan span
   pub sound : IsSound span

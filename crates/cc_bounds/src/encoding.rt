@@ -2,7 +2,7 @@
 ghost use Rattle.std.specs.Prelude.{◌≡◌, ◌+◌, ◌/◌, ◌%◌, ◌^◌, ◌<◌, ◌≤◌, ◌↔◌, IsTrue, true, IfSome, min};
 ghost use Rattle.cc_bounds.specs.Span.{IsSpan, span_from, length_of};
 ghost use Rattle.cc_bounds.specs.Granule.{IsExponent, IsGranted, IsSound, exponent_of};
-ghost use Rattle.cc_bounds.specs.Encoding.{HasBoundsFields, StoresSpan, ie_of, t_of, b_of};
+ghost use Rattle.cc_bounds.specs.Encoding.{HasBoundsFields, IsEncoding, StoresSpan, ie_of, t_of, b_of};
 ghost use Rattle.cc_bounds.specs.Decoding.{DecodesTo, exponent_field};
 ghost use Rattle.cc_bounds.specs.declared.span.Span.{Span as SpanSpec};
 ghost use Rattle.cc_bounds.specs.Tightest.{DecodesBack, IsTight, IsTightest};
@@ -21,45 +21,56 @@ use std::marker::Model;
 /// Source: UCAM-CL-TR-987, the compressed capability encoding; Woodruff et al. 2019.
 #[derive(Clone, Copy, PartialEq, Eq, Debug)]
 pub struct Set {
-    // the granted span, then the other fields in eight bytes: there is no padding between the
-    // fields
-    top: u128,
+    // the granted span but for the top's bit 64, and then the other fields in eight bytes
     base: u64,
+    low_top: u64,
     t: u16,
     b: u16,
     exponent: u8,
+    /// Bit 64 of the top, which is set only if the span ends at 2^64.
+    high_top: u8,
     ie: bool,
     exact: bool,
 }
 
 impl Model for Set {
-    ghost use Rattle.cc_bounds.specs.Encoding.{Encoding, IsEncoding, ie_of, t_of, b_of};
+    ghost use Rattle.std.specs.Prelude.{◌≡◌, ◌+◌, ◌*◌, ◌^◌};
+    ghost use Rattle.cc_bounds.specs.Encoding.{Encoding, IsEncoding, ie_of, t_of, b_of, low_top_of, high_top_of};
     ghost use Rattle.cc_bounds.specs.Granule.{exponent_of};
+    ghost use Rattle.cc_bounds.specs.declared.span.Span.{Span as SpanSpec};
     ghost use Rattle.std.proofs.Common.{sym};
 
     ghost Value = { Encoding };
 
-    ghost view = { λ set. record { granted = record { base = set.base; top = set.top }; exact = set.exact } };
+    ghost view = { λ set. record {
+      granted = record { base = set.base; top = set.high_top * 2 ^ 64 + set.low_top };
+      exact = set.exact;
+    } };
 
-    ghost invariant = { λ set. IsEncoding (record { base = set.base; top = set.top }) set.exponent set.ie set.t set.b };
+    ghost invariant = { λ set.
+        let granted : SpanSpec = record { base = set.base; top = set.high_top * 2 ^ 64 + set.low_top } in
+        IsEncoding granted set.exponent set.ie set.t set.b
+        × (set.low_top ≡ low_top_of granted) × (set.high_top ≡ high_top_of granted) };
 
     ghost inverse = { λ encoding. record {
-      top = encoding.granted.top;
       base = encoding.granted.base;
+      low_top = low_top_of encoding.granted;
       t = t_of encoding.granted;
       b = b_of encoding.granted;
       exponent = exponent_of encoding.granted;
+      high_top = high_top_of encoding.granted;
       ie = ie_of encoding.granted;
       exact = encoding.exact;
     } };
 
     ghost inverse_ok = { λ set h i. record {
-      top = set.top;
       base = set.base;
-      t = sym h.is_t i;
-      b = sym h.is_b i;
-      exponent = sym h.is_e i;
-      ie = sym h.is_ie i;
+      low_top = sym h.1 i;
+      t = sym h.0.is_t i;
+      b = sym h.0.is_b i;
+      exponent = sym h.0.is_e i;
+      high_top = sym h.2 i;
+      ie = sym h.0.is_ie i;
       exact = set.exact;
     } };
 }
@@ -83,15 +94,7 @@ impl Set {
         if !stores_with(fields, exponent, &span) {
             return None;
         }
-        Some(Set {
-            top: span.top,
-            base: span.base,
-            t: fields.t,
-            b: fields.b,
-            exponent: exponent as u8,
-            ie: fields.ie,
-            exact: true,
-        })
+        Some(storing(span, exponent as u8, fields.ie, fields.t, fields.b, true))
     }
 
     /// Returns the encoding of a sound span, which is exact: the result of setting bounds to the
@@ -158,7 +161,7 @@ impl Set {
     {
         Span {
             base: self.base,
-            top: self.top,
+            top: (u128::from(self.high_top) << 64) + u128::from(self.low_top),
         }
     }
 
@@ -236,15 +239,36 @@ fn encoded(granted: Span, power: u32, exact: bool) -> Set
     ensures { result ≡ record { granted = granted; exact = exact } }
 {
     let exponent = power.saturating_sub(3);
+    let t = t_field(&granted, exponent);
+    let b = b_field(&granted, exponent);
+    storing(granted, exponent as u8, power > 0, t, b, exact)
+}
+
+/// Returns the encoding of a granted span that has this exponent and these bounds fields.
+#[inline(always)]
+#[tactic(auto, unfolding(crate::specs::Encoding::low_top_of, crate::specs::Encoding::high_top_of))]
+fn storing(granted: Span, exponent: u8, ie: bool, t: u16, b: u16, exact: bool) -> Set
+    requires { IsEncoding granted exponent ie t b }
+    ensures { result ≡ record { granted = granted; exact = exact } }
+{
     Set {
-        top: granted.top,
         base: granted.base,
-        t: t_field(&granted, exponent),
-        b: b_field(&granted, exponent),
-        exponent: exponent as u8,
-        ie: power > 0,
+        low_top: low_half(granted.top),
+        t,
+        b,
+        exponent,
+        high_top: (granted.top >> 64) as u8,
+        ie,
         exact,
     }
+}
+
+/// Returns the low 64 bits of a top.
+#[inline(always)]
+fn low_half(top: u128) -> u64
+    ensures { result ≡ top % 2 ^ 64 }
+{
+    (top & 0xffff_ffff_ffff_ffff) as u64
 }
 
 /// Returns the T field of a granted span: its top in units of 2^exponent bytes, with the exponent's
@@ -256,8 +280,7 @@ fn t_field(granted: &Span, exponent: u32) -> u16
     requires { exponent ≤ 52 }
     ensures { result ≡ granted.now.top / 2 ^ exponent % 2 ^ 12 + exponent / 8 }
 {
-    let top = (granted.top & 0xffff_ffff_ffff_ffff) as u64;
-    ((top >> exponent) & 0xfff) as u16 + (exponent >> 3) as u16
+    ((low_half(granted.top) >> exponent) & 0xfff) as u16 + (exponent >> 3) as u16
 }
 
 /// Returns the B field of a granted span: its base in units of 2^exponent bytes, with the

@@ -14,13 +14,13 @@ returns-then-not-stores_with-clause-only c span h =
 pub returns-clause-only : goal.returns-clause-only
 returns-clause-only c span h =
     let own = c.decode_with-span.ensures.only span (stored-decodes c.args.fields.now span h) in
-    ap Some (ap (λ (s : Span). record { granted = s; exact = true }) (sym own))
+    ap Some (c.storing.ensures ∙ ap (λ (s : Span). record { granted = s; exact = true }) (sym own))
 
 pub returns-clause-found : goal.returns-clause-found
-returns-clause-found c = c.stores_with.ensures.0 c.if-not-stores_with.false
+returns-clause-found c = rw c.storing.ensures (c.stores_with.ensures.0 c.if-not-stores_with.false)
 
-pub invariant_of-result : goal.invariant_of-result
-invariant_of-result c =
+pub storing-requires : goal.storing-requires
+storing-requires c =
     let stores = c.stores_with.ensures.0 c.if-not-stores_with.false in
     stored-encoding c.args.fields.now c.decode_with-span.result c.exponent_field-exponent.result
     (c.exponent_field-exponent.ensures.field ∙ stored-field c.args.fields.now c.decode_with-span.result stores) stores
