@@ -1,5 +1,5 @@
 -- Adding what an operation made to the slots is the machine's step.
-use Rattle.std.proofs.Common.{ℕ, false, ◌≡◌, ◌<◌, ◌≤◌, ◌∙◌, List, [], ◌∷◌, ◌++◌, Option, Some, Ok, length, map, slice_index, sym, ap, subst, inl, arith}
+use Rattle.std.proofs.Common.{ℕ, false, ◌≡◌, ◌<◌, ◌≤◌, ◌+◌, ◌∙◌, List, [], ◌∷◌, ◌++◌, Option, Some, Ok, length, map, slice_index, sym, ap, subst, inl, arith}
 use Rattle.std.specs.List.{slice_get}
 use Rattle.std.proofs.lemmas.List.{length-map, map_push}
 use Rattle.cc_bounds.specs.declared.span.Span.{Span}
@@ -22,7 +22,7 @@ use Rattle.cc_machine.proofs.TreeLemmas.{Keeps, Keeps-reached}
 use Rattle.cc_machine.proofs.ObjectTreeLemmas.{KeepsObjects}
 use Rattle.cc_machine.proofs.ObjectLawLemmas.{KeepsObjects-reached}
 use Rattle.cc_machine.proofs.OwnerLemmas.{TellsOwners-next}
-use Rattle.cc_machine.proofs.KeptSlotLemmas.{kept-slot, owner-of, slots-push}
+use Rattle.cc_machine.proofs.KeptSlotLemmas.{before-next, kept-slot, owner-of, slots-push}
 use Rattle.cc_machine.proofs.PlanLemmas.{plan_of-adds}
 use Rattle.cc_machine.proofs.ActionLemmas.{state_with}
 
@@ -56,7 +56,7 @@ module _ (limit : ℕ) (slots : List Slot) (pool : Option ℕ) (plan : Plan) (ow
 
   -- the slots with one more
   abbrev with_more : Slot → List Slot
-  with_more up = slots ++ record { capability = cap; parent = Some parent; owner = up.owner } ∷ []
+  with_more up = slots ++ record { capability = cap; after_parent = parent + 1; owner = up.owner } ∷ []
 
   pub record AddsTo (up : Slot) (reply : Reply) : Type 0 where
     pub adds : Adds state parent (Ok cap) reply (state_with limit (map (slot_state plan.objects) (with_more up)) pool plan own)
@@ -73,7 +73,7 @@ module _ (limit : ℕ) (slots : List Slot) (pool : Option ℕ) (plan : Plan) (ow
       let objects : KeepsObjects state = KeepsObjects-reached state reached in
       let new : State = state_with limit (map (slot_state plan.objects) (with_more up)) pool plan own in
       let long = length-map slots (slot_state plan.objects) in
-      let all_slots = slots-push plan.objects slots (record { capability = cap; parent = Some parent; owner = up.owner }) (not-swept up found) in
+      let all_slots = slots-push plan.objects slots (record { capability = cap; after_parent = parent + 1; owner = up.owner }) (Some parent) (before-next parent) (not-swept up found) in
       let same : new ≡ with_slot state cap parent = λ i. record { limit = limit; slots = all_slots i; pool = pool; align = plan.align; objects = state.objects } in
       let count : number ≡ length state.slots = omega (arith, is_number, long) in
       let adds : Adds state parent (Ok cap) (Made number word span) new =
@@ -87,7 +87,7 @@ module _ (limit : ℕ) (slots : List Slot) (pool : Option ℕ) (plan : Plan) (ow
         },
       ) in
       let owners : map (λ (s : Slot). s.owner) (with_more up) ≡ map (λ (s : Slot). s.owner) slots ++ slice_index (map (λ (s : Slot). s.owner) slots) parent ∷ [] =
-      map_push (λ (s : Slot). s.owner) slots (record { capability = cap; parent = Some parent; owner = up.owner })
+      map_push (λ (s : Slot). s.owner) slots (record { capability = cap; after_parent = parent + 1; owner = up.owner })
       ∙ ap (λ (n : ℕ). map (λ (s : Slot). s.owner) slots ++ n ∷ []) (sym (owner-of slots parent up found)) in
       let within : parent < length state.slots = omega (arith, parent-within, long) in
       let next = TellsOwners-next (map (λ (s : Slot). s.owner) slots) state cap parent owned within keeps.parent_first objects in

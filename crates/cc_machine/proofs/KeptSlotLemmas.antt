@@ -12,9 +12,9 @@ use Rattle.cc_plan.specs.declared.planned_object.ObjectState.TheVariants.{Live, 
 use Rattle.cc_plan.specs.PlannedObject.{PlannedObject}
 use Rattle.cc_plan.specs.Plan.{is_freed, is_held, object_numbered, plan_swept}
 use Rattle.cc_machine.specs.declared.slot.Slot.{Slot}
-use Rattle.cc_machine.specs.State.{SlotState}
+use Rattle.cc_machine.specs.State.{SlotState, tagged_slot}
 use Rattle.cc_machine.specs.Step.{revoked_count}
-use Rattle.cc_machine.specs.Owners.{is_swept_at, is_freed_at, slot_state, owned_count, freed_slot_count, CountsSlots}
+use Rattle.cc_machine.specs.Owners.{is_swept_at, is_freed_at, number_before, parent_of, slot_state, owned_count, freed_slot_count, CountsSlots}
 
 -- ---- tests of an object by its number
 
@@ -104,7 +104,7 @@ slots-same : (objects objects' : List PlannedObject) → ((number : ℕ) → is_
     → map (slot_state objects') slots ≡ map (slot_state objects) slots
 slots-same objects objects' same slots =
     ap (λ (f : Slot → SlotState). map f slots)
-    (λ i slot. record { capability = slot.capability; revoked = same slot.owner i; parent = slot.parent })
+    (λ i slot. record { capability = slot.capability; revoked = same slot.owner i; parent = parent_of slot })
 
 -- an object more, which is held
 pub slots-made : (objects : List PlannedObject) (more : PlannedObject) → is_held more.state ≡ true → (slots : List Slot)
@@ -120,22 +120,26 @@ slots-freed objects k object found live =
     (told-set (λ o. not (is_held o.state)) objects k object (record object { state = Freed }) found
     (sym (ap (λ (s : ObjectState). not (is_held s)) live)))
 
--- the owner that a slot more has in the state
-pub slots-push : (objects : List PlannedObject) (slots : List Slot) (more : Slot) → is_swept_at objects more.owner ≡ false
-    → map (slot_state objects) (slots ++ more ∷ [])
-    ≡ map (slot_state objects) slots ++ record { capability = more.capability; revoked = false; parent = more.parent } ∷ []
-slots-push objects slots more tagged =
+-- the number before the next
+pub before-next : (number : ℕ) → number_before (number + 1) ≡ Some number
+before-next number = let next : number + 1 ≡ suc number = omega arith in ap number_before next
+
+-- what a slot more is in the state
+pub slots-push : (objects : List PlannedObject) (slots : List Slot) (more : Slot) (parent : Option ℕ) → parent_of more ≡ parent
+    → is_swept_at objects more.owner ≡ false
+    → map (slot_state objects) (slots ++ more ∷ []) ≡ map (slot_state objects) slots ++ tagged_slot more.capability parent ∷ []
+slots-push objects slots more parent is_parent tagged =
     map_push (slot_state objects) slots more
-    ∙ ap (λ (b : Bool). map (slot_state objects) slots ++ record { capability = more.capability; revoked = b; parent = more.parent } ∷ []) tagged
+    ∙ (λ i. map (slot_state objects) slots ++ record { capability = more.capability; revoked = tagged i; parent = is_parent i } ∷ [])
 
 -- an object more, and its slot
-pub slots-first : (objects : List PlannedObject) (made : PlannedObject) (slots : List Slot) (more : Slot) → is_held made.state ≡ true
-    → more.owner ≡ length objects + 1
+pub slots-first : (objects : List PlannedObject) (made : PlannedObject) (slots : List Slot) (more : Slot) (parent : Option ℕ) → parent_of more ≡ parent
+    → is_held made.state ≡ true → more.owner ≡ length objects + 1
     → map (slot_state (objects ++ made ∷ [])) (slots ++ more ∷ [])
-    ≡ map (slot_state objects) slots ++ record { capability = more.capability; revoked = false; parent = more.parent } ∷ []
-slots-first objects made slots more held next =
+    ≡ map (slot_state objects) slots ++ tagged_slot more.capability parent ∷ []
+slots-first objects made slots more parent is_parent held next =
     slots-made objects made held (slots ++ more ∷ [])
-    ∙ slots-push objects slots more (told-next (λ object. not (is_held object.state)) objects more.owner next)
+    ∙ slots-push objects slots more parent is_parent (told-next (λ object. not (is_held object.state)) objects more.owner next)
 
 -- what a sweep makes of the mark of an object
 mark-swept : (object : PlannedObject) → not (is_held (plan_swept object).state) ≡ (not (is_held object.state) || is_freed object.state)

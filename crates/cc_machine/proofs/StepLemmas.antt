@@ -10,6 +10,7 @@ use Rattle.cc_values.specs.declared.reply.Reply.{Reply}
 use Rattle.cc_machine.specs.declared.slot.Slot.{Slot}
 use Rattle.cc_machine.specs.State.{State, SlotState, tagged_slot, IsSlot}
 use Rattle.cc_machine.specs.Step.{usable, usable_slot, OnSlot, Derives, Step}
+use Rattle.cc_machine.specs.Owners.{parent_of}
 use Rattle.cc_machine.specs.Making.{IsMade, Makes}
 use Rattle.cc_machine.proofs.DerivingLemmas.{OnSlot-usable_slot}
 
@@ -23,11 +24,11 @@ OnSlot-usable slots number result slot Rule is_usable holds =
 
 -- what a look-up found
 pub usable-told : (slots : List SlotState) (number : ℕ) (found : Result Slot Refusal) (slot : Slot)
-    → usable_slot slots number ≡ result_map_both (λ s. tagged_slot s.capability s.parent) (λ refusal. refusal) found → found ≡ Ok slot
-    → usable_slot slots number ≡ Ok (tagged_slot slot.capability slot.parent)
+    → usable_slot slots number ≡ result_map_both (λ s. tagged_slot s.capability (parent_of s)) (λ refusal. refusal) found → found ≡ Ok slot
+    → usable_slot slots number ≡ Ok (tagged_slot slot.capability (parent_of slot))
 usable-told slots number found slot told is =
     told
-    ∙ ap (λ (result : Result Slot Refusal). result_map_both (λ (s : Slot). tagged_slot s.capability s.parent) (λ (refusal : Refusal). refusal) result) is
+    ∙ ap (λ (result : Result Slot Refusal). result_map_both (λ (s : Slot). tagged_slot s.capability (parent_of s)) (λ (refusal : Refusal). refusal) result) is
 
 -- a slot that can be used exists
 pub usable-is : (slots : List SlotState) (number : ℕ) (slot : SlotState) → usable_slot slots number ≡ Ok slot → slice_get slots number ≡ Some slot

@@ -16,7 +16,7 @@ use Rattle.cc_machine.specs.Step.{RevokesIf, RevokesFreed, Sweeps}
 use Rattle.cc_machine.specs.Objects.{freed_count, swept}
 use Rattle.cc_machine.specs.Run.{IsReached}
 use Rattle.cc_machine.specs.Planned.{planned_object, plan_of}
-use Rattle.cc_machine.specs.Owners.{is_swept_at, is_freed_at, slot_state, freed_slot_count, TellsOwners}
+use Rattle.cc_machine.specs.Owners.{is_swept_at, is_freed_at, parent_of, slot_state, freed_slot_count, TellsOwners}
 use Rattle.cc_machine.proofs.SlotLemmas.{IsSlot-within}
 use Rattle.cc_machine.proofs.RevokingLemmas.{RevokesFreed-same}
 use Rattle.cc_machine.proofs.TreeLemmas.{Keeps, Keeps-reached}
@@ -104,14 +104,14 @@ module _ (limit : ℕ) (slots : List Slot) (pool : Option ℕ) (plan : Plan) (ow
       by_mark number before after kept found within was now mark true is =
           let marked : is_swept_at (map planned_swept plan.objects) kept.owner ≡ true =
           mark ∙ ap (λ (b : Bool). is_swept_at plan.objects kept.owner || b) is ∙ either (is_swept_at plan.objects kept.owner) in
-          let like : after ≡ record { capability = kept.capability; revoked = true; parent = kept.parent } =
-          now ∙ ap (λ (b : Bool). record { capability = kept.capability; revoked = b; parent = kept.parent }) marked in
+          let like : after ≡ record { capability = kept.capability; revoked = true; parent = parent_of kept } =
+          now ∙ ap (λ (b : Bool). record { capability = kept.capability; revoked = b; parent = parent_of kept }) marked in
           inl (belongs-freed number kept found within is, like ∙ ap (λ (s : SlotState). record s { revoked = true }) (sym was))
       by_mark number before after kept found within was now mark false is =
           let stays : is_swept_at (map planned_swept plan.objects) kept.owner ≡ is_swept_at plan.objects kept.owner =
           mark ∙ ap (λ (b : Bool). is_swept_at plan.objects kept.owner || b) is ∙ neither (is_swept_at plan.objects kept.owner) in
           let like : after ≡ slot_state plan.objects kept =
-          now ∙ ap (λ (b : Bool). record { capability = kept.capability; revoked = b; parent = kept.parent }) stays in
+          now ∙ ap (λ (b : Bool). record { capability = kept.capability; revoked = b; parent = parent_of kept }) stays in
           inr (λ it. (let e = freed-belongs number kept found within it in cc), like ∙ sym was)
 
   pub record SweepsTo (count freed held : ℕ) : Type 0 where

@@ -1,6 +1,6 @@
 -- The object that each slot belongs to, which a machine keeps in addition to its state, and the
 -- number of slots that belong to each. No public clause cites this file.
-use Rattle.std.specs.Prelude.{ℕ, suc, Bool, false, ◌≡◌, ◌≤◌, ◌<◌, ◌↔◌, List, count_by, length, nat_eq, not, option_map, slice_index, unwrap_or}
+use Rattle.std.specs.Prelude.{ℕ, zero, suc, Bool, false, ◌≡◌, ◌≤◌, ◌<◌, ◌↔◌, List, Option, Some, None, count_by, length, nat_eq, not, option_map, slice_index, unwrap_or}
 use Rattle.cc_plan.specs.PlannedObject.{PlannedObject}
 use Rattle.cc_plan.specs.Plan.{is_freed, is_held, object_numbered}
 use Rattle.cc_machine.specs.declared.object.Object.{Object}
@@ -18,12 +18,21 @@ abbrev pub is_freed_at : List PlannedObject → ℕ → Bool
 is_freed_at objects number =
     unwrap_or (option_map (λ object. is_freed object.state) (object_numbered objects number)) false
 
+-- The number before another, or none before 0.
+abbrev pub number_before : ℕ → Option ℕ
+number_before zero = None
+number_before (suc before) = Some before
+
+-- The parent of a slot, of which the number after it is kept: 0 if there is none.
+abbrev pub parent_of : Slot → Option ℕ
+parent_of slot = number_before slot.after_parent
+
 -- A slot of the state: it is revoked if and only if the object that it belongs to was swept.
 abbrev pub slot_state : List PlannedObject → Slot → SlotState
 slot_state objects slot = record {
   capability = slot.capability;
   revoked = is_swept_at objects slot.owner;
-  parent = slot.parent;
+  parent = parent_of slot;
 }
 
 -- The number of slots with this owner.

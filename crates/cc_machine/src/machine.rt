@@ -63,6 +63,7 @@ impl Machine {
     ghost use Rattle.cc_values.specs.declared.op.Op.TheVariants.{Pool, Alloc, Free, Sweep};
     ghost use Rattle.cc_machine.specs.State.{initial_state, tagged_slot};
     ghost use Rattle.cc_machine.specs.Objects.{object_at, held_bytes_of, held_spans};
+    ghost use Rattle.cc_machine.specs.Owners.{parent_of};
     ghost use Rattle.cc_machine.specs.Planned.{plan_of};
     ghost use Rattle.cc_machine.specs.Step.{capability_at, parent_at, usable_slot, Adds, Shows, Step};
     ghost use Rattle.cc_machine.specs.Making.{IsMade};
@@ -88,7 +89,7 @@ impl Machine {
         let mut slots = Vec::with_capacity(alloc, limit as usize)?;
         slots.push_reserved(Slot {
             capability: Cap::root(),
-            parent: None,
+            after_parent: 0,
             owner: 0,
         });
         let object_slots = Vec::with_capacity(alloc, limit as usize)?;
@@ -139,7 +140,7 @@ impl Machine {
     #[inline(always)]
     pub(crate) fn usable(&self, number: u32) -> Result<Slot, Refusal>
         ensures { usable_slot self.now.slots number
-            ≡ result_map_both (λ slot. tagged_slot slot.capability slot.parent) (λ refusal. refusal) result }
+            ≡ result_map_both (λ slot. tagged_slot slot.capability (parent_of slot)) (λ refusal. refusal) result }
     {
         let slot = self.slots.get(number as usize).ok_or(Refusal::NoSlot)?;
         if is_swept(&self.planner, slot.owner) {
@@ -156,7 +157,7 @@ impl Machine {
         ensures { result ≡ parent_at self.now.slots number }
     {
         match self.slots.get(number as usize) {
-            Some(slot) => Ok(slot.parent),
+            Some(slot) => Ok(slot.parent()),
             None => Err(Refusal::NoSlot),
         }
     }
@@ -256,7 +257,7 @@ impl Machine {
                 perms: slot.capability.perms(),
                 flag: slot.capability.flag(),
                 otype: slot.capability.otype(),
-                parent: slot.parent,
+                parent: slot.parent(),
             },
             Err(refusal) => Reply::Refused(refusal),
         }
@@ -282,7 +283,7 @@ impl Machine {
         let owner = self.slots[parent as usize].owner;
         let slot = Slot {
             capability,
-            parent: Some(parent),
+            after_parent: parent + 1,
             owner,
         };
         self.slots.push_reserved(slot);
@@ -345,7 +346,7 @@ impl Machine {
         };
         self.slots.push_reserved(Slot {
             capability,
-            parent: Some(pool),
+            after_parent: pool + 1,
             owner: object.0,
         });
         self.object_slots.push_reserved(number);

@@ -123,7 +123,7 @@ added c =
 
 -- the counts with it
 counted : (c : goal.After-span) → CountsSlots c.self.inside.planner.objects
-    (c.self.inside.slots.items ++ record { capability = c.in-Ok.capability; parent = Some c.args.parent; owner = c.index.result.now.owner } ∷ [])
+    (c.self.inside.slots.items ++ record { capability = c.in-Ok.capability; after_parent = c.args.parent + 1; owner = c.index.result.now.owner } ∷ [])
     (set c.self.inside.slot_counts.items c.index.result.now.owner (c.index_mut.result.now + 1)) (c.self.inside.freed_slots + c.from.result)
 counted c =
     let makes =
@@ -135,14 +135,14 @@ counted c =
     let more : c.from.result ≡ cond (is_freed_at c.self.inside.planner.objects c.index.result.now.owner) 1 0 =
     c.from.ensures ∙ byte_is c.is_freed.result ∙ ap (λ (b : Bool). cond b 1 0) c.is_freed.ensures in
     let slots : List Slot =
-    c.self.inside.slots.items ++ record { capability = c.in-Ok.capability; parent = Some c.args.parent; owner = c.index.result.now.owner } ∷ [] in
+    c.self.inside.slots.items ++ record { capability = c.in-Ok.capability; after_parent = c.args.parent + 1; owner = c.index.result.now.owner } ∷ [] in
     subst (λ (n : ℕ). CountsSlots c.self.inside.planner.objects slots (set c.self.inside.slot_counts.items c.index.result.now.owner (n + 1)) (c.self.inside.freed_slots + c.from.result))
     (sym one)
     (subst (λ (n : ℕ). CountsSlots c.self.inside.planner.objects slots
     (set c.self.inside.slot_counts.items c.index.result.now.owner (slice_index c.self.inside.slot_counts.items c.index.result.now.owner + 1))
     (c.self.inside.freed_slots + n)) (sym more)
     (CountsSlots-push c.self.inside.planner.objects c.self.inside.slots.items c.self.inside.slot_counts.items c.self.inside.freed_slots
-    (record { capability = c.in-Ok.capability; parent = Some c.args.parent; owner = c.index.result.now.owner }) c.self.invariant.counted up.fits))
+    (record { capability = c.in-Ok.capability; after_parent = c.args.parent + 1; owner = c.index.result.now.owner }) c.self.invariant.counted up.fits))
 
 pub invariant_of-self : goal.invariant_of-self
 invariant_of-self c =

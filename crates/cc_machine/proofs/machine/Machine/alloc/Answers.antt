@@ -21,9 +21,10 @@ use Rattle.cc_machine.proofs.TreeLemmas.{Keeps-reached}
 use Rattle.cc_machine.proofs.GrowthLemmas.{HasUnsealed}
 use Rattle.cc_machine.proofs.RunLemmas.{IsReached-step}
 use Rattle.cc_machine.proofs.ObjectLawLemmas.{KeepsObjects-reached}
-use Rattle.cc_machine.proofs.KeptSlotLemmas.{CountsSlots-made, slots-first}
+use Rattle.cc_machine.proofs.KeptSlotLemmas.{CountsSlots-made, before-next, slots-first}
 use Rattle.cc_machine.proofs.PlanLemmas.{objects_in-length}
 use Rattle.cc_machine.proofs.ActionLemmas.{state_with, AllocatesTo, PlansObject, alloc-allocates, alloc-plans, alloc-refused, alloc-refuses}
+use Rattle.cc_machine.proofs.SlotLemmas.{IsSlot-within}
 use Rattle.cc_machine.proofs.machine.Machine.alloc.Goals as goal
 
 -- the pool's slot
@@ -98,13 +99,20 @@ push_reserved-requires-3 c =
       c.self.invariant.has_count_room,
     )
 
+-- the pool's slot exists, so the number after it fits
+pub overflow_add-pool : goal.overflow_add-pool
+overflow_add-pool c =
+    let within = IsSlot-within (own_pool c.self.inside c.self.invariant c.in-Some.pool c.in-Some.is).is_slot in
+    let long = length-map c.self.inside.slots.items (slot_state c.self.inside.planner.objects) in
+    omega (arith, within, long, c.self.invariant.within_limit, c.self.invariant.limit_fits)
+
 -- the reply
 abbrev told : goal.After-held_bytes → Reply
 told c = Allocated c.in-Ok.made.0.0 (length c.self.inside.slots.items) c.word.result c.span.result c.held_bytes.result
 
 -- the new slot
 abbrev first : goal.After-held_bytes → Slot
-first c = record { capability = c.in-Ok.made.1; parent = Some c.in-Some.pool; owner = c.in-Ok.made.0.0 }
+first c = record { capability = c.in-Ok.made.1; after_parent = c.in-Some.pool + 1; owner = c.in-Ok.made.0.0 }
 
 -- the slots of the state, as it was
 abbrev was : goal.After-held_bytes → List SlotState
@@ -168,7 +176,7 @@ slots_are c =
     ap (λ (os : List PlannedObject). map (slot_state os) c.push_reserved.new.self.items) it.objects_are
     ∙ ap (λ (slots : List Slot). map (slot_state (c.self.inside.planner.objects ++ it.more ∷ [])) slots) c.push_reserved.ensures.items
     ∙ slots-first c.self.inside.planner.objects it.more c.self.inside.slots.items (first c)
-    (ap (λ (s : ObjectState). is_held s) it.live) it.is_number
+    (Some c.in-Some.pool) (before-next c.in-Some.pool) (ap (λ (s : ObjectState). is_held s) it.live) it.is_number
 
 -- no owner is past the objects
 owner_fits : (c : goal.After-held_bytes) → (slot : ℕ)

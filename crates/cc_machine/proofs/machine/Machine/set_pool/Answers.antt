@@ -9,7 +9,7 @@ use Rattle.cc_values.specs.declared.reply.Reply.TheVariants.{PoolSet}
 use Rattle.cc_machine.specs.State.{State, tagged_slot}
 use Rattle.cc_machine.specs.Step.{usable_slot, SetsPool}
 use Rattle.cc_machine.specs.Run.{IsReached}
-use Rattle.cc_machine.specs.Owners.{slot_state, CountsSlots, TellsOwners}
+use Rattle.cc_machine.specs.Owners.{parent_of, slot_state, CountsSlots, TellsOwners}
 use Rattle.cc_machine.specs.Machine.{IsMachine, state_of}
 use Rattle.cc_machine.specs.Planned.{plan_of}
 use Rattle.cc_machine.proofs.RunLemmas.{IsReached-step}
@@ -34,7 +34,7 @@ sets : (c : goal.After-span) → SetsPoolTo c.self.inside.limit (map (slot_state
 sets c =
     give-sets c.self.inside.limit (map (slot_state c.self.inside.planner.objects) c.self.inside.slots.items) c.self.inside.pool
     c.self.inside.planner c.self.inside.object_slots.items c.self.invariant.each_has_slot c.self.invariant.planned c.self.invariant.reached
-    c.args.number c.args.align (tagged_slot c.in-Ok.slot.capability c.in-Ok.slot.parent) c.span.result c.in_default.field-0 c.give_pool_aligned.new.self
+    c.args.number c.args.align (tagged_slot c.in-Ok.slot.capability (parent_of c.in-Ok.slot)) c.span.result c.in_default.field-0 c.give_pool_aligned.new.self
     (ap (λ (s : State). usable_slot s.slots c.args.number) c.self.view_is
     ∙ usable-told c.args.self.now.slots c.args.number c.usable.result c.in-Ok.slot c.usable.ensures c.in-Ok.is)
     c.span.ensures.span

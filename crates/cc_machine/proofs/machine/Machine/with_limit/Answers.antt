@@ -14,7 +14,7 @@ use Rattle.cc_machine.proofs.machine.Machine.with_limit.Goals as goal
 
 -- the root's slot
 abbrev root : Slot
-root = record { capability = root_capability; parent = None; owner = 0 }
+root = record { capability = root_capability; after_parent = 0; owner = 0 }
 
 -- the opening state: it is reached by no operation, and the planner knows of no pool and no object
 record IsOpened (limit : ℕ) (slots : List Slot) (plan : Plan) (own counts : List ℕ) : Type 0 where
@@ -42,9 +42,9 @@ opened limit none slots first plan own none_counted counts is_none is_root is_sl
 facts : (c : goal.In_ok-planner) → IsOpened c.args.limit c.push_reserved.new.self.items c.in_ok-planner.planner c.in_ok-object_slots.object_slots.items c.push_reserved-2.new.self.items
 facts c =
     opened c.args.limit c.in_ok-slots.slots.items c.push_reserved.new.self.items
-    (record { capability = c.root.result; parent = None; owner = 0 }) c.in_ok-planner.planner
+    (record { capability = c.root.result; after_parent = 0; owner = 0 }) c.in_ok-planner.planner
     c.in_ok-object_slots.object_slots.items c.in_ok-slot_counts.slot_counts.items c.push_reserved-2.new.self.items c.in_ok-slots.ensures.items
-    (ap (λ (cap : Capability). record { capability = cap; parent = None; owner = 0 }) c.root.ensures) c.push_reserved.ensures.items
+    (ap (λ (cap : Capability). record { capability = cap; after_parent = 0; owner = 0 }) c.root.ensures) c.push_reserved.ensures.items
     c.in_ok-planner.ensures c.in_ok-object_slots.ensures.items c.in_ok-slot_counts.ensures.items c.push_reserved-2.ensures.items
 
 pub invariant_of-result : goal.invariant_of-result
