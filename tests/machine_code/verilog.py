@@ -45,13 +45,12 @@ def module(name, inputs, outputs):
 
 
 def modules():
-    """Returns the texts of the modules."""
+    """Returns the texts of the modules. That addresses in the window keep the bounds is the lemma same_bounds."""
     word, address, base, length = (z3.BitVec(*it) for it in (("word", 128), ("address", 64), ("base", 64), ("length", 65)))
     fields = model.Fields(model.bits(word, 127, 64), model.bits(word, 63, 0))
     reason, stored, low, high, exponent = model.defect(fields)
     decoder = {name: getattr(fields, name) for name in "perms reserved flag otype ie t b address".split()}
     decoder |= dict(exponent=model.bits(exponent, 5, 0), base=low, top=high, stored=stored, canonical=reason == 0)
-    moved_low, moved_high, _ = model.decode(fields, address)
 
     def or_zero(granted, term):
         return z3.If(granted.in_range, term, z3.BitVecVal(0, term.size())) if z3.is_bv(term) else z3.And(granted.in_range, term)
@@ -63,12 +62,11 @@ def modules():
     rounded = (model.ext(length) + granted.granule - 1) & ~(granted.granule - 1)
     lengths = dict(in_range=granted.in_range, mask=or_zero(granted, model.bits(~(granted.granule - 1), 63, 0)))
     lengths |= dict(rounded=z3.If(granted.in_range, model.bits(rounded, 64, 0), z3.BitVecVal(-1, 65)))
-    same = z3.And(low == moved_low, high == moved_high)
     return [
         module("model_decoder", [word], decoder),
         module("model_encoder", [base, length], encoder),
         module("model_length", [length], lengths),
-        module("model_window", [word, address], dict(keeps_bounds=same)),
+        module("model_window", [word, address], dict(keeps_bounds=model.in_window(low, exponent, address))),
     ]
 
 
