@@ -1,5 +1,5 @@
 -- An event that was taken.
-use Rattle.std.proofs.Common.{◌≡◌, ℕ, Bool, false, List, [], ◌++◌, Option, Some, None, Result, Ok, refl, sym, ◌∙◌, ap, append-nil, inl, subst}
+use Rattle.std.proofs.Common.{◌≡◌, ℕ, Bool, false, List, [], ◌++◌, Option, Some, None, Result, Ok, Err, refl, sym, ◌∙◌, ap, append-nil, inl, subst}
 use Rattle.cc_word.specs.declared.refusal.Refusal.TheVariants.{Unfinished}
 use Rattle.cc_replay.specs.declared.counts.Counts.{Counts}
 use Rattle.cc_heap.specs.declared.event.Event.{Event}
@@ -86,6 +86,20 @@ event_entry old entry event counts out out_now is_error new is counts_is taken =
       text = here.text;
       out_is = here.out_is;
       takes = subst (λ (e : Result (Option Event) Refusal). TakesEntry replaying (at_entry entry old) e here.text is_error new) (sym is) here.takes;
+    }
+
+-- the entry of a line is refused
+pub refused_entry : (old : ReplayState) (entry : Entry) (refusal : Refusal) (counts : Counts) (out : List ℕ) (is_error : Bool) (new : ReplayState)
+    → entry.event ≡ Err refusal
+    → counts ≡ with_failure entry.is_failure (with_line old.counts)
+    → RefusesEntry (replaying.refused refusal (state_of old.run old.reading counts entry.pending old.time old.progress old.is_sampled)) [] is_error new
+    → AppendsEntry replaying old entry out out is_error new
+refused_entry old entry refusal counts out is_error new is counts_is refused =
+    record {
+      text = [];
+      out_is = sym (append-nil out);
+      takes = subst (λ (e : Result (Option Event) Refusal). TakesEntry replaying (at_entry entry old) e [] is_error new) (sym is)
+          (subst (λ (n : Counts). RefusesEntry (replaying.refused refusal (state_of old.run old.reading n entry.pending old.time old.progress old.is_sampled)) [] is_error new) counts_is refused);
     }
 
 -- the entry of a line has no event

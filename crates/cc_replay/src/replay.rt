@@ -203,6 +203,7 @@ impl<P: Placer> Replay<P> {
     /// Counts a line and takes its entry, and appends a sample if it is due. Returns whether it is refused.
     ///
     /// Requires: the alignment that its event requests is a power of two; `MOST_SAMPLE` bytes of the page are free.
+    #[tactic(auto, using(crate::proofs::ReplayLemmas::refused_entry))]
     pub fn take_entry<const N: usize>(&mut self, entry: Entry, out: &mut Page<N>) -> bool
         requires aligned { IfOk entry.event (λ event. IfSome event HasAlignment) }
         requires room { length out.old + most_sample ≤ N }
