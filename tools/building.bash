@@ -76,12 +76,12 @@ files() {
   local also=()
   while [[ $1 != -- ]]; do also+=("$1") && shift; done
   LC_ALL=C exec find crates.txt "${order[@]/#/crates/}" "${also[@]}" \
-    \( -name out -o -name must-fail \) -prune -o -type d -o -type f "${@:2}" -o -exec false {} +
+    -name out -prune -o -type d -o -type f "${@:2}" -o -exec false {} +
 }
 # Ends if a source is a link or a special file.
 refuse_links() {
   local found
-  found=$(cd -- "$top" && LC_ALL=C find crates.txt "${order[@]/#/crates/}" \( -name out -o -name must-fail \) -prune -o ! -type d ! -type f -print -quit)
+  found=$(cd -- "$top" && LC_ALL=C find crates.txt "${order[@]/#/crates/}" -name out -prune -o ! -type d ! -type f -print -quit)
   [[ -z $found ]] || stop "$found is a symbolic link or a special file, and each source must be a file"
 }
 

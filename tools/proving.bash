@@ -82,7 +82,7 @@ copy_sources() {
     mkdir -- "$apart/crates/$name" || return
     for it in "$top/crates/$name"/*; do
       case ${it##*/} in
-        out | must-fail) ;;
+        out) ;;
         *) cp -R --no-preserve=mode -- "$it" "$apart/crates/$name/" || return ;;
       esac
     done

@@ -155,7 +155,7 @@ def prose():
         "header": all_of(c, "include/*.h", "include/*.hpp"),
         "public": all_of(lambda text: rattle(text, True), sources)
         | all_of(antt, "crates/*/specs/**/*.antt")
-        | all_of(mistakes, "mutants/*/*.edit", "crates/*/must-fail/*.edit"),
+        | all_of(mistakes, "mutants/*/*.edit"),
         "other": all_of(lambda text: rattle(text, False), sources)
         | all_of(antt, "crates/*/proofs/**/*.antt")
         | all_of(c, "examples/*.c", "examples/*.cpp", "bench/*.[ch]", "hardware/*.sv", "tests/hardware.d/*.sv")
