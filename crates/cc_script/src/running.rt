@@ -14,7 +14,7 @@ use crate::answering::{answer_line, answer_op};
 use crate::session::Session;
 use cc_io::{
     Answerer, Failed, IoError, Lines, MOST_LINE, Page, Sink, Source, Summary, make_room, pump,
-    refusal_bytes,
+    push_refusal,
 };
 use cc_machine::{Machine, Op};
 use cc_syntax::Tally;
@@ -50,7 +50,7 @@ impl<const N: usize> Answerer<N> for Session<'_> {
                 false
             }
             Err(refusal) => {
-                out.push(refusal_bytes(refusal));
+                push_refusal(out, refusal);
                 self.tally.take_refused(entry, refusal);
                 true
             }
@@ -61,7 +61,7 @@ impl<const N: usize> Answerer<N> for Session<'_> {
         requires { length out.old + 193 ≤ N }
         ensures { AnswersInto RefusesScriptRest self.old _rest.now out.old out.new result self.new }
     {
-        out.push(refusal_bytes(Refusal::Unfinished));
+        push_refusal(out, Refusal::Unfinished);
         self.tally.take_refused(b"", Refusal::Unfinished);
         true
     }
@@ -148,7 +148,7 @@ fn take_opening<W: Sink, const N: usize>(
             Err(Failed) => return Err(Failed),
         }
         if let Err(refusal) = answer_op(machine, page, op) {
-            page.push(refusal_bytes(refusal));
+            push_refusal(page, refusal);
             tally.take_refused_opening(refusal);
             any_error = true;
         }

@@ -16,4 +16,4 @@ returns-in-Some-clause-any_error c =
     (λ never. absurd (false≢true never), λ isnt. absurd (isnt typed))
 
 pub returns-in-None-clause-drawing : goal.returns-in-None-clause-drawing
-returns-in-None-clause-drawing c = inr (λ typed. false≢true (c.in-None.ensures.found.1 typed), c.push_refusal.ensures)
+returns-in-None-clause-drawing c = inr (λ typed. false≢true (c.in-None.ensures.found.1 typed), rw (c.push_refusal.ensures.value, c.requires) refl)

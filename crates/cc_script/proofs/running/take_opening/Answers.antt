@@ -1,6 +1,7 @@
-use Rattle.std.proofs.Common.{◌∙◌, ◌||◌, ◌++◌, Bool, List, Ok, ap, arith, length, length-append, refl, rules, sym, ℕ}
+use Rattle.std.proofs.Common.{◌∙◌, ◌||◌, ◌++◌, Bool, List, Ok, ap, arith, length, refl, rules, sym, ℕ}
 use Rattle.std.proofs.Math.Bool.{or-false, or-true}
 use Rattle.cc_values.specs.declared.reply.Reply.TheVariants.{Refused}
+use Rattle.cc_io.specs.Text.{refusal_text, with_line_feed}
 use Rattle.cc_syntax.proofs.TallyLemmas.{opening_taken}
 use Rattle.cc_syntax.specs.Replies.{reply_text}
 use Rattle.cc_script.proofs.SessionLemmas.{opens_none, opens_passed, opens_more, opens_stops, opens_whole}
@@ -10,8 +11,8 @@ use Rattle.cc_script.proofs.running.take_opening.Goals as goal
 pub loop-op-init : goal.loop-op-init
 loop-op-init g c = record { opens = opens_none _ _ _ _ _ c.requires.empty; works = search rules }
 
-pub push-requires : goal.push-requires
-push-requires g c = omega (arith, c.in-Ok.ensures.room, c.refusal_bytes.ensures.fits, ap length (c.in-Err-answer_op.ensures.answers (Ok c.op-item.result) refl).1)
+pub push_refusal-requires : goal.push_refusal-requires
+push_refusal-requires g c = omega (arith, c.in-Ok.ensures.room, ap length (c.in-Err-answer_op.ensures.answers (Ok c.op-item.result) refl).1)
 
 pub loop-op-preserved : goal.loop-op-preserved
 unfolding reply_text
@@ -22,9 +23,8 @@ loop-op-preserved g c =
       opens = elim c.match-answer_op.branch [
         | in-Err-answer_op w ↦
             let refused = w.in-Err-answer_op.ensures.answers (Ok c.op-item.result) refl in
-            let page_is = w.page-is ∙ w.push.ensures ∙ ap (λ (l : List ℕ). l ++ w.refusal_bytes.result.now) refused.1 in
-            more (Refused w.in-Err-answer_op.refusal) refused.0 (page_is ∙ ap (λ (l : List ℕ). c.make_room.new.page ++ l) w.refusal_bytes.ensures.value)
-            (omega (arith, ap length page_is, length-append c.make_room.new.page w.refusal_bytes.result.now, w.refusal_bytes.ensures.fits))
+            let page_is = w.page-is ∙ w.push_refusal.ensures.value ∙ ap (λ (l : List ℕ). l ++ with_line_feed (refusal_text w.in-Err-answer_op.refusal)) refused.1 in
+            more (Refused w.in-Err-answer_op.refusal) refused.0 page_is (omega (arith, ap length w.page-is, w.push_refusal.ensures.fits, ap length refused.1))
             (w.any_error-is ∙ sym (or-true _)) (rw w.tally-is w.take_refused_opening.ensures)
         | in_default w ↦
             let replied = w.in_default.ensures.answers (Ok c.op-item.result) refl in

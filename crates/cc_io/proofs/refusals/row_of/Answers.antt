@@ -1,6 +1,6 @@
 use Rattle.std.proofs.Common.{refl}
 use Rattle.std.specs.Fmt.{digits}
-use Rattle.cc_io.proofs.refusals.refusal_bytes.Goals as goal
+use Rattle.cc_io.proofs.refusals.row_of.Goals as goal
 
 pub returns-in-Syntax-clause-value : goal.returns-in-Syntax-clause-value
 unfolding digits
