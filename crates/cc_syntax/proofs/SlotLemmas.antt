@@ -1,7 +1,7 @@
 -- The values after a name: an alignment, or the number of a slot and one more value.
 use Rattle.std.proofs.Common.{true≢false, ◌<◌, ◌++◌, take, drop, get_or, length-take, ◌≡◌, ℕ, ◌+◌, ◌≤◌, Bool, true, false, ◌==◌, List, [], ◌∷◌, ◌^◌, ◌-◌, length, Some, Result, Ok, Err, refl, sym}
 use Rattle.std.proofs.Common.{◌∙◌, ap, arith, if◌then◌else◌, codes}
-use Rattle.std.proofs.lemmas.Bool.{eqb-true, le-leb}
+use Rattle.std.proofs.lemmas.Bool.{eqb-true, le-leb, lt-leb}
 use Rattle.std.proofs.lemmas.List.{take-append-drop, drop_more, take_rest}
 use Rattle.std.proofs.lemmas.Slice.Eq.{bytes_eq-Decides}
 use Rattle.std.specs.Char.{is_digit}
@@ -9,7 +9,7 @@ use Rattle.std.specs.List.{list_all, onto_first}
 use Rattle.std.specs.Str.{bytes_eq}
 use Rattle.std.specs.Str.Parse.{digits_value}
 use Rattle.cc_word.specs.declared.refusal.Refusal.{Refusal}
-use Rattle.cc_word.specs.declared.refusal.Refusal.TheVariants.{Syntax}
+use Rattle.cc_word.specs.declared.refusal.Refusal.TheVariants.{OutOfRange, Syntax}
 use Rattle.cc_bounds.specs.declared.align.Align.TheVariants.{One, Sixteen}
 use Rattle.cc_values.specs.Values.{words_of, index_in, both, single}
 use Rattle.cc_values.proofs.SpaceLemmas.{is_word, both_true, some_words, single_of, spelled}
@@ -84,6 +84,13 @@ number_begins text at number within some space digits is =
       whole = rw (take_rest text (at + 1)) (ap words_of parts ∙ digits_then (take at text) (drop (at + 1) text) digits);
       spelled = spelled (take at text) (omega (arith, sized)) digits ∙ ap Some (sym is);
     }
+
+-- A number that comes first and is over the limit of a slot.
+pub number_over : {A : Type 0} (value_in : List ℕ → Result A Refusal) (text : List ℕ) (number : ℕ) (rest : List ℕ)
+    → BeginsWithNumber text number rest → 2 ^ 32 - 1 < number → both (Err OutOfRange) (single value_in (words_of rest)) ≡ slot_and value_in (words_of text)
+number_over value_in text number rest begins over =
+    slot_then value_in text (Err OutOfRange) rest
+    (record { word = begins.word; whole = begins.whole; slot_is = rw (begins.spelled, lt-leb number (2 ^ 32 - 1) over) refl })
 
 -- A number that comes first and is one of a slot.
 pub number_then : {A : Type 0} (value_in : List ℕ → Result A Refusal) (text : List ℕ) (number : ℕ) (rest : List ℕ)

@@ -1,8 +1,9 @@
 -- The change of a tally by one more reply.
 use Rattle.std.proofs.Common.{◌≡◌, ◌∙◌, ◌+◌, ◌-◌, ◌<◌, ◌^◌, ◌==◌, ◌&&◌, ◌||◌, ℕ, zero, suc, Bool, true, false, cond, List, [], ◌∷◌, ◌++◌, ap, arith, count_by, get_or, if◌then◌else◌, inl, inr}
-use Rattle.std.proofs.Common.{length, length-append, length-take, min, nat_le, refl, sym, take}
-use Rattle.std.specs.List.{list_any}
+use Rattle.std.proofs.Common.{codes, length, length-append, length-take, min, nat_le, refl, sym, take}
+use Rattle.std.specs.List.{list_any, starts_with}
 use Rattle.std.proofs.lemmas.Bool.{cases_lt, eqb-false, eqb-true, lt-leb, true≢false}
+use Rattle.std.proofs.Math.Bool.{and-false}
 use Rattle.std.proofs.Math.Dec.{eqb-suc-zero}
 use Rattle.std.proofs.lemmas.List.{take_all}
 use Rattle.std.proofs.lemmas.List.Sums.{sum_by-cons, sum_by_push}
@@ -250,6 +251,10 @@ word-cut line = elim (cases_lt (length line) 129) [
       let whole : nat_le (length line) 128 ≡ false = lt-leb (length line) 128 (omega (arith, long)) in
       rw (cut, whole) refl
 ]
+
+-- A line that does not begin with `rebuild ` has no marked word.
+pub unmarked : (line : List ℕ) → starts_with (λ one other. one == other) line (codes "rebuild ") ≡ false → has_marked_word line ≡ false
+unmarked line other = rw (other, and-false (nat_le (length line) 128)) refl
 
 -- One more line, which is refused.
 pub line_refused : (opening : List Reply) (exchanges : List Exchange) (line : List ℕ) (refusal : Refusal) (old new : Tally) → new.lines ≡ min (old.lines + 1) (2 ^ 64 - 1)

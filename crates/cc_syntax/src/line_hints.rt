@@ -16,18 +16,7 @@ pub(crate) fn ends_in_return(line: &[u8]) -> bool
 
 /// Returns whether a line of at most 128 bytes is a `rebuild` whose word is written with `0x` or a
 /// colon.
-#[inline(always)]
 pub(crate) fn has_marked_word(line: &[u8]) -> bool
-    ensures { result ≡ has_marked_word line.now }
-{
-    // for nearly all refused lines, the first bytes decide
-    line.starts_with(b"rebuild ") && is_marked(line)
-}
-
-/// Returns the same, from all bytes of the line.
-#[cold]
-#[inline(never)]
-fn is_marked(line: &[u8]) -> bool
     ensures { result ≡ has_marked_word line.now }
 {
     let word = &line[line.len().saturating_sub(MARKED)..];

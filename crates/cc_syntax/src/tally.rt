@@ -4,6 +4,7 @@ ghost use Rattle.cc_values.specs.declared.reply.Reply.{Reply as ReplySpec};
 ghost use Rattle.cc_values.specs.declared.reply.Reply.TheVariants.{Refused};
 ghost use Rattle.cc_word.specs.Refusal.{code_of};
 ghost use Rattle.cc_word.specs.declared.refusal.Refusal.TheVariants.{Full};
+ghost use Rattle.cc_syntax.specs.LineHints.{has_marked_word};
 ghost use Rattle.cc_syntax.specs.Replies.{is_error};
 ghost use Rattle.cc_syntax.specs.Tally.{Exchange, HasOneMore, IsTally, first_after, is_refusal};
 
@@ -103,6 +104,16 @@ fn note_first(first: &mut u64, passes: bool, number: u64)
     }
 }
 
+/// Sets `first`, the number of the first line with a marked word or 0, to that of one more refused line, if this
+/// has one and `first` is 0.
+#[cold]
+#[inline(never)]
+fn note_marked_word(first: &mut u64, line: &[u8], number: u64)
+    ensures { first.new ≡ first_after first.old (has_marked_word line.now) number }
+{
+    note_first(first, has_marked_word(line), number);
+}
+
 /// Counts one more reply that is this refusal, to the line with this number. The number of a setup
 /// operation is 0.
 fn add_reply(counts: &mut [Count; 22], refusal: Refusal, number: u64)
@@ -159,6 +170,9 @@ impl Tally {
         add_reply(&mut self.counts, refusal, self.lines);
         note_first(&mut self.full, is_full(refusal), self.lines);
         note_first(&mut self.carriage_return, ends_in_return(start), self.lines);
-        note_first(&mut self.marked_word, has_marked_word(start), self.lines);
+        // for nearly all refused lines, the first bytes decide
+        if start.starts_with(b"rebuild ") {
+            note_marked_word(&mut self.marked_word, start, self.lines);
+        }
     }
 }

@@ -1,6 +1,7 @@
 //! The values of commands.
-ghost use Rattle.std.specs.Prelude.{◌≡◌, ℕ, List, Result};
+ghost use Rattle.std.specs.Prelude.{◌≡◌, ℕ, List, Result, Err};
 ghost use Rattle.cc_word.specs.declared.refusal.Refusal.{Refusal as RefusalSpec};
+ghost use Rattle.cc_word.specs.declared.refusal.Refusal.TheVariants.{OutOfRange};
 ghost use Rattle.cc_values.specs.Values.{address_in, both, flag_in, index_in, length_in, permissions_in, single};
 ghost use Rattle.cc_values.specs.Values.{word_in, words_of};
 ghost use Rattle.cc_syntax.specs.Commands.{align_in, slot_and, slot_and_perhaps};
@@ -101,11 +102,24 @@ pub(crate) fn slot_and<V: Value>(text: &[u8]) -> Result<(u32, V), Refusal>
             Ok(value) => Ok((number as u32, value)),
             Err(refusal) => Err(refusal),
         },
-        // taken apart, so that the values of the arm above stay in registers
-        _ => match slot_and_any(text) {
+        Some((_, rest)) => Err(over_limit::<V>(rest)),
+        // taken apart, so that the values of the first arm stay in registers
+        None => match slot_and_any(text) {
             Ok((slot, value)) => Ok((slot, value)),
             Err(refusal) => Err(refusal),
         },
+    }
+}
+
+/// Returns the refusal of a number of a slot that is over its limit, and of the value after it.
+#[inline(never)]
+fn over_limit<V: Value>(text: &[u8]) -> Refusal
+    ensures { (slot : Result ℕ RefusalSpec) → slot ≡ Err OutOfRange
+        → Err result ≡ both slot (single V.value_in (words_of text.now)) }
+{
+    match V::read(text) {
+        Ok(_) => Refusal::OutOfRange,
+        Err(refusal) => refusal,
     }
 }
 
