@@ -1,5 +1,5 @@
--- The object that each slot belongs to, which a machine keeps in addition to its state, and the
--- number of slots that belong to each. No public clause cites this file.
+-- The object that each slot belongs to, which a machine keeps in addition to its state, the number of
+-- slots that belong to each, and the parent of a slot as it is kept. No public clause cites this file.
 use Rattle.std.specs.Prelude.{ℕ, zero, suc, Bool, false, ◌≡◌, ◌≤◌, ◌<◌, ◌↔◌, List, Option, Some, None, count_by, length, nat_eq, not, option_map, slice_index, unwrap_or}
 use Rattle.cc_plan.specs.PlannedObject.{PlannedObject}
 use Rattle.cc_plan.specs.Plan.{is_freed, is_held, object_numbered}
