@@ -7,7 +7,7 @@ ghost use Rattle.cli_words.specs.Rounder.{AnswersLength, RefusesLastBytes};
 use crate::bare_digits::is_bare_line;
 use crate::list_line::read_listed;
 use crate::rounding::push_rounding;
-use cc_io::{Answerer, IoError, Lines, Page, Sink, Source, Summary, pump, refusal_bytes};
+use cc_io::{Answerer, IoError, Lines, Page, Sink, Source, Summary, pump, push_refusal};
 use cc_word::Refusal;
 
 /// The length of the page of output in bytes.
@@ -45,20 +45,20 @@ impl Answerer<ROOM> for Rounder {
     fn answer(&mut self, line: &[u8], out: &mut Page<ROOM>) -> bool {
         self.bare = self.bare || is_bare_line(line);
         if line.len() > MOST_LINE {
-            out.push(refusal_bytes(Refusal::TooLong));
+            push_refusal(out, Refusal::TooLong);
             return true;
         }
         match read_listed(self.base, line) {
             Ok((length, base)) => push_rounding(base, length, out),
             Err(refusal) => {
-                out.push(refusal_bytes(refusal));
+                push_refusal(out, refusal);
                 true
             }
         }
     }
 
     fn end(&mut self, _rest: &[u8], out: &mut Page<ROOM>) -> bool {
-        out.push(refusal_bytes(Refusal::Unfinished));
+        push_refusal(out, Refusal::Unfinished);
         true
     }
 }

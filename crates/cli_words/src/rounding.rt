@@ -11,7 +11,7 @@ ghost use Rattle.cc_io.specs.CommandOutput.{WritesAnswer};
 ghost use Rattle.cli_words.specs.Rounding.{IsRounding, IsRoundingFrom, IsUnroundable};
 
 use cc_bounds::{Len, Span, set_bounds};
-use cc_io::{IoError, Page, Sink, Summary, Text, push_hexadecimal, refusal_bytes, write_and_flush};
+use cc_io::{IoError, Page, Sink, Summary, Text, push_hexadecimal, push_refusal, write_and_flush};
 use cc_syntax::{read_length, reply_line, request_from};
 use cc_values::Reply;
 
@@ -57,7 +57,7 @@ pub(crate) fn push_round<const N: usize>(base: Option<u64>, text: &[u8], out: &m
     match read_length(text) {
         Ok(length) => push_rounding(base, length, out),
         Err(refusal) => {
-            out.push(refusal_bytes(refusal));
+            push_refusal(out, refusal);
             true
         }
     }
@@ -83,7 +83,7 @@ pub(crate) fn push_rounding<const N: usize>(base: Option<u64>, size: Len, out: &
                 false
             }
             Err(refusal) => {
-                out.push(refusal_bytes(refusal));
+                push_refusal(out, refusal);
                 true
             }
         },

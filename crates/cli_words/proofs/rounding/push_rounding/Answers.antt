@@ -57,9 +57,9 @@ returns-in-Ok g c =
 
 pub returns-in-Err : goal.returns-in-Err
 returns-in-Err g c =
-    not_rounded c.args.base c.in-Some.base c.args.size c.in-Err.refusal c.args.out.now c.push-in-Err.new.self c.in-Some.is
+    not_rounded c.args.base c.in-Some.base c.args.size c.in-Err.refusal c.args.out.now c.push_refusal.new.page c.in-Some.is
     (ap (λ (n : ℕ). request_from (Ok (c.in-Some.base, n))) (sym c.get.ensures.value) ∙ sym c.request_from.ensures.request ∙ c.in-Err.is)
-    (rw (c.push-in-Err.ensures, c.refusal_bytes.ensures.value) refl)
+    c.push_refusal.ensures.value
 
 -- ---- the room
 pub push-requires : goal.push-requires
@@ -96,9 +96,4 @@ push-requires-in-Ok-2 g c =
       c.push_granted.ensures.fits,
       c.requires,
     ) in
-    (search rules, fits)
-
-pub push-requires-in-Err : goal.push-requires-in-Err
-push-requires-in-Err g c =
-    let fits : length c.args.out.now + length c.refusal_bytes.result.now ≤ g.row.N = omega (arith, c.refusal_bytes.ensures.fits, c.requires) in
     (search rules, fits)
