@@ -20,24 +20,15 @@ pub(crate) fn argument<'a>(alloc: Global, row: &Row<'a>, choices: Choices<'a>) -
         return bare.long(row.name).action(ArgAction::SetTrue);
     }
     let taken = bare.value_name(row.placeholder).action(ArgAction::Set);
-    match row.kind {
-        Kind::Wanted => taken.required(true),
-        Kind::Free | Kind::Flag => taken,
-        Kind::Valued | Kind::Address | Kind::Permissions => taken.long(row.name),
-        Kind::Slots => taken
-            .long(row.name)
-            .value_parser(ValueParser::Signed(1, 65_536)),
-        Kind::Align => taken
-            .long(row.name)
-            .value_parser(ValueParser::Names(choices.aligns)),
-        Kind::Format => taken
-            .long(row.name)
-            .value_parser(ValueParser::Names(choices.formats)),
-        Kind::Order => taken
-            .long(row.name)
-            .value_parser(ValueParser::Names(choices.orders)),
-        Kind::Summary => taken
-            .long(row.name)
-            .value_parser(ValueParser::Names(choices.summaries)),
-    }
+    let parser = match row.kind {
+        Kind::Wanted => return taken.required(true),
+        Kind::Free | Kind::Flag => return taken,
+        Kind::Valued | Kind::Address | Kind::Permissions => return taken.long(row.name),
+        Kind::Slots => ValueParser::Signed(1, 65_536),
+        Kind::Align => ValueParser::Names(choices.aligns),
+        Kind::Format => ValueParser::Names(choices.formats),
+        Kind::Order => ValueParser::Names(choices.orders),
+        Kind::Summary => ValueParser::Names(choices.summaries),
+    };
+    taken.long(row.name).value_parser(parser)
 }
