@@ -1,4 +1,5 @@
 use Rattle.std.proofs.Common.{◌≡◌, ◌∙◌, List, ◌∷◌, ◌++◌, ap, ap₂, arith, length, length-append, sym, ℕ}
+use Rattle.std.proofs.lemmas.Grind.{common_steps}
 use Rattle.cc_replay.specs.Group.{more_policies, policy_rows}
 use Rattle.cc_replay.specs.Replay.{ReplayState}
 use Rattle.cc_replay.specs.Rows.{between_rows, row_text, table_rows}
@@ -31,3 +32,9 @@ rows-preserved g c =
       );
       short = c.between_rows-before.ensures.fits;
     }
+
+pub push-requires : goal.push-requires
+push-requires g c = grind (arith, common_steps) steps 4000000
+
+pub push_row-requires : goal.push_row-requires
+push_row-requires g c = grind (arith, common_steps) steps 4000000
