@@ -32,7 +32,7 @@ pub use invocation::{
 pub use last_error::{LastError, Noting};
 pub use memory::{GlobalMemory, Memory};
 pub use mistakes::error_with_usage;
-pub use outcome::{Ending, ending_of, ending_status, finish, tell};
+pub use outcome::{Ending, ending_of, ending_status, finish, status, tell};
 pub use process_inputs::{ProcessInputs, no_input};
 pub use question::{Base, Question};
 pub use reading::read_words;

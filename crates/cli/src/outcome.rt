@@ -30,6 +30,14 @@ pub fn ending_of(answer: Result<Summary, Fault>) -> Ending
     }
 }
 
+/// Returns the exit status of a program whose command had this result: 0 if no reply was an error, 1 if one was, and 3
+/// if the program stopped before its end.
+pub fn status(answer: &Result<Summary, Fault>) -> u8
+    ensures { result ≡ status_of (ending_of answer.now) }
+{
+    ending_status(ending_of(*answer))
+}
+
 /// Returns the exit status: 0 if no reply was an error, 1 if one was, 2 if the command line was refused, and 3 if the
 /// program stopped before its end.
 pub fn ending_status(ending: Ending) -> u8

@@ -17,5 +17,5 @@ pub use bare_digits::is_bare;
 pub use explaining_bounds::explain_length;
 pub use length_list::round_list;
 pub use questions::ask;
-pub use rounding::show_round;
+pub use rounding::{show_round, show_round_from};
 pub use words::{annotate_file, decode_core_file, decode_file, round_file};

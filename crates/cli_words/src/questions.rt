@@ -9,7 +9,7 @@ ghost use Rattle.cli_words.specs.Tasks.{AnswersQuestion};
 
 use crate::explaining_bounds::explain_length;
 use crate::number_hint::hint_numbers;
-use crate::rounding::show_round;
+use crate::rounding::show_round_from;
 use crate::word_hint::hint_word;
 use cc_decode::show_row;
 use cc_explain::{draw_window, explain_word, show_word};
@@ -158,7 +158,7 @@ fn show_rounding<W: Sink>(
     ensures any_error { IfOk result (λ summary. IsTrue summary.any_error
         ↔ IsUnanswerable (question.Round base.entry length.entry)) }
 {
-    show_round(address_of(base), length.as_bytes(), sink)
+    show_round_from(address_of(base), length.as_bytes(), sink)
 }
 
 /// Returns the address of a base, if one is given.

@@ -11,12 +11,26 @@ ghost use Rattle.cc_io.specs.CommandOutput.{WritesAnswer};
 ghost use Rattle.cli_words.specs.Rounding.{IsRounding, IsRoundingFrom, IsUnroundable};
 
 use cc_bounds::{Len, Span, set_bounds};
-use cc_io::{IoError, Page, Sink, Summary, Text, push_hexadecimal, push_refusal, write_and_flush};
+use cc_io::{IoError, Page, Sink, Summary, push_hexadecimal, push_refusal, write_and_flush};
 use cc_syntax::{read_length, reply_line, request_from};
 use cc_values::Reply;
 
 /// The maximum length of the output for a length in bytes, including its line feed.
 const MOST: usize = 264;
+
+/// Writes the line `round LENGTH GRANULE MASK` for a length, and flushes the sink once after it, as [`show_round_from`]
+/// does without a base.
+///
+/// Requires: the sink has not failed.
+/// Errors: `Write` if and only if the sink fails. A prefix of the output is then written.
+/// Instruction: CRRL, CRAM.
+pub fn show_round<W: Sink>(text: &[u8], sink: &mut W) -> Result<Summary, IoError>
+    requires { (W.state sink.old).has_failed ≡ false }
+    ensures shown { WritesAnswer (IsRounding None text.now) (W.state sink.old) (W.state sink.new) result }
+    ensures any_error { IfOk result (λ summary. IsTrue summary.any_error ↔ IsUnroundable None (length_in text.now)) }
+{
+    show_round_from(None, text, sink)
+}
 
 /// Writes the line `round LENGTH GRANULE MASK` for a length, or with a base the line
 /// `round LENGTH GRANULE MASK BASE TOP`, and flushes the sink once after it.
@@ -33,19 +47,19 @@ const MOST: usize = 264;
 /// Requires: the sink has not failed.
 /// Errors: `Write` if and only if the sink fails. A prefix of the output is then written.
 /// Instruction: CRRL, CRAM.
-pub fn show_round<W: Sink>(base: Option<u64>, text: &[u8], sink: &mut W) -> Result<Summary, IoError>
+pub fn show_round_from<W: Sink>(
+    base: Option<u64>,
+    text: &[u8],
+    sink: &mut W,
+) -> Result<Summary, IoError>
     requires { (W.state sink.old).has_failed ≡ false }
     ensures shown { WritesAnswer (IsRounding base text.now) (W.state sink.old) (W.state sink.new) result }
     ensures any_error { IfOk result (λ summary. IsTrue summary.any_error ↔ IsUnroundable base (length_in text.now)) }
 {
     let mut line = Page::<MOST>::new();
     let any_error = push_round(base, text, &mut line);
-    let mut answer = Text::new();
-    answer.push(line.bytes());
-    match write_and_flush(&answer, sink) {
-        Ok(()) => Ok(Summary { any_error }),
-        Err(error) => Err(error),
-    }
+    write_and_flush(&line, sink)?;
+    Ok(Summary { any_error })
 }
 
 /// Appends the output for a length, and returns whether it is an error.
