@@ -1,10 +1,9 @@
 -- The output of `decode`, and of `round` for a list, with its hint.
-use Rattle.std.proofs.Common.{◌≡◌, ℕ, ◌≤◌, ◌-◌, Bool, false, ◌&&◌, ◌||◌, List, [], drop, Option, Some, None, IfSome, Result, Ok, Err, inr, refl, subst, sym}
+use Rattle.std.proofs.Common.{◌≡◌, ℕ, ◌≤◌, ◌-◌, Bool, false, ◌&&◌, ◌||◌, List, drop, Option, Some, None, IfSome, Result, Ok, Err, inr, refl, subst, sym}
 use Rattle.std.specs.Borrow.{Bor}
 use Rattle.clap.specs.Words.{Text}
 use Rattle.std.specs.Prelude.{OnErr, OnOk, is_err, true}
 use Rattle.std.proofs.lemmas.Bool.{false≢true}
-use Rattle.std.specs.List.{list_any}
 use Rattle.std.specs.Io.KnownBytes.{Appends}
 use Rattle.cc_io.specs.declared.summary.IoError.{IoError}
 use Rattle.cc_io.specs.declared.summary.Summary.{Summary}
@@ -19,8 +18,7 @@ use Rattle.cc_decode.proofs.SkipLemmas.{lists_further}
 use Rattle.cli.specs.declared.question.Base.{Base}
 use Rattle.cli.specs.Devices.{Console, FromInput, OnDevices, console_of}
 use Rattle.cli.proofs.DeviceLemmas.{on_devices-map}
-use Rattle.cli_words.specs.BareDigits.{is_bare}
-use Rattle.cli_words.specs.NumberHint.{after_base, hint_if}
+use Rattle.cli_words.specs.NumberHint.{hint_if, is_bare_base}
 use Rattle.cli_words.specs.Questions.{address_of}
 use Rattle.cli_words.specs.Tasks.{GaveAll, ListsCoreFile, ListsInput, ListsWords, RoundsLengths, SeesLengths}
 use Rattle.cli.specs.declared.fault.Fault.{Fault}
@@ -87,7 +85,7 @@ lists_opened passed part options input console source io fits known lists = reco
 
 -- The hint on the list, beside its output.
 hinted_too : (base : Option Base) (hints bare : Bool) (input : InputName) (console : Console) (result : Result Summary Fault)
-    → OnOk result (console.errors_now.has_failed ≡ false → Appends console.errors.taken console.errors_now.taken (hint_if (hints && (list_any is_bare (after_base base []) || bare))))
+    → OnOk result (console.errors_now.has_failed ≡ false → Appends console.errors.taken console.errors_now.taken (hint_if (hints && (is_bare_base base || bare))))
     → OnDevices (FromInput input console (SeesLengths (address_of base) bare)) result → OnDevices (FromInput input console (RoundsLengths base hints)) result
 hinted_too base hints bare input console (Ok summary) hinted f = record {
   source = f.source;
@@ -110,7 +108,7 @@ hinted_too base hints bare input console (Err fault.Open) hinted f = tt
 -- The same for an equal address and an equal input.
 pub hinted_at : (base : Option Base) (hints bare : Bool) (place : Option ℕ) (name input : InputName) (console : Console) (result : Result Summary Fault)
     → place ≡ address_of base → name ≡ input
-    → OnOk result (console.errors_now.has_failed ≡ false → Appends console.errors.taken console.errors_now.taken (hint_if (hints && (list_any is_bare (after_base base []) || bare))))
+    → OnOk result (console.errors_now.has_failed ≡ false → Appends console.errors.taken console.errors_now.taken (hint_if (hints && (is_bare_base base || bare))))
     → OnDevices (FromInput name console (SeesLengths place bare)) result → OnDevices (FromInput input console (RoundsLengths base hints)) result
 hinted_at base hints bare place name input console result is_place is_name hinted f =
     hinted_too base hints bare input console result hinted

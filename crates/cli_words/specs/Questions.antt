@@ -1,5 +1,5 @@
 -- The output of `show`, `round` and `explain`, the questions for which it is an error, and the hint on a question.
-use Rattle.std.specs.Prelude.{ℕ, Bool, false, not, ◌&&◌, IsErr, List, [], ◌∷◌, Option, None, Some, is_some, option_map}
+use Rattle.std.specs.Prelude.{ℕ, Bool, false, not, ◌&&◌, ◌||◌, IsErr, List, Option, None, Some, is_some, option_map}
 use Rattle.cc_word.specs.WordText.{IsWordText}
 use Rattle.cc_values.specs.Values.{length_in}
 use Rattle.cc_explain.specs.Explanation.{IsExplanation}
@@ -12,7 +12,8 @@ use Rattle.cli_words.specs.LengthExplanation.{IsLengthExplanation, request_at}
 use Rattle.cli_words.specs.Rounding.{IsRounding, IsUnroundable}
 use Rattle.cli.specs.declared.question.Question.{Question}
 use Rattle.cli.specs.declared.question.Question.TheVariants.{DrawWindow, Explain, ExplainLength, Round, Show}
-use Rattle.cli_words.specs.NumberHint.{after_base, is_hinted, number_hint}
+use Rattle.cli_words.specs.BareDigits.{is_bare}
+use Rattle.cli_words.specs.NumberHint.{hint_if, is_bare_base}
 use Rattle.cli_words.specs.WordHint.{is_word_hinted, word_hint}
 
 -- The address of a base, if one is given.
@@ -42,13 +43,11 @@ IsUnanswerable (ExplainLength base size) = IsErr (request_at base.address size.n
 -- `0x`, and for `round` and `explain --length` on the numbers.
 abbrev pub has_hint : (hints : Bool) → Question → Bool
 has_hint hints (Show word format) = is_word_hinted (hints && not (is_some format)) word.now
-has_hint hints (Round base size) = is_hinted hints (after_base base (size.now ∷ []))
-has_hint hints (ExplainLength base size) = is_hinted hints (after_base (Some base) (size.now ∷ []))
+has_hint hints (Round base size) = hints && (is_bare_base base || is_bare size.now)
+has_hint hints (ExplainLength base size) = hints && (is_bare base.text.now || is_bare size.now)
 has_hint hints _ = false
 
 -- This hint, or nothing if there is none.
 abbrev pub question_hint : (hints : Bool) → Question → List ℕ
 question_hint hints (Show word format) = word_hint (hints && not (is_some format)) word.now
-question_hint hints (Round base size) = number_hint hints (after_base base (size.now ∷ []))
-question_hint hints (ExplainLength base size) = number_hint hints (after_base (Some base) (size.now ∷ []))
-question_hint hints _ = []
+question_hint hints question = hint_if (has_hint hints question)

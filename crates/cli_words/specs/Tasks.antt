@@ -1,15 +1,13 @@
 -- The output of the commands that run no script, by their input.
-use Rattle.std.specs.Prelude.{◌≡◌, ℕ, Bool, false, ◌&&◌, ◌||◌, ◌⊎◌, [], List, OnOk, Option, None, Some, Result, Err, IfOk, IfSome, IsTrue, ◌↔◌}
+use Rattle.std.specs.Prelude.{◌≡◌, ℕ, Bool, false, ◌&&◌, ◌||◌, ◌⊎◌, List, OnOk, Option, None, Some, Result, Err, IfOk, IfSome, IsTrue, ◌↔◌}
 use Rattle.std.specs.Borrow.{Bor}
 use Rattle.clap.specs.Words.{Text}
-use Rattle.std.specs.List.{list_any}
 use Rattle.std.specs.Io.KnownBytes.{Appends}
 use Rattle.cc_io.specs.Devices.{OutputState}
 use Rattle.cc_io.specs.declared.summary.IoError.{IoError}
 use Rattle.cc_io.specs.declared.summary.IoError.TheVariants.{Read}
 use Rattle.cc_io.specs.declared.summary.Summary.{Summary}
 use Rattle.cc_io.specs.CommandOutput.{WritesAnswer}
-use Rattle.cli_words.specs.BareDigits.{is_bare}
 use Rattle.cli_words.specs.RoundList.{RoundsList}
 use Rattle.cc_io.specs.declared.format.Format.{Format}
 use Rattle.cc_decode.specs.declared.options.Options.{Options}
@@ -24,7 +22,7 @@ use Rattle.cc_io.specs.Devices.{InputState}
 use Rattle.cli.specs.Devices.{Console, FromInput, GivesAll, Traffic}
 use Rattle.cli.specs.declared.input.InputName.{InputName}
 use Rattle.cli.specs.declared.input.InputName.TheVariants.{File}
-use Rattle.cli_words.specs.NumberHint.{after_base, hint_if}
+use Rattle.cli_words.specs.NumberHint.{hint_if, is_bare_base}
 use Rattle.cli_words.specs.Questions.{address_of, IsAnswerTo, IsUnanswerable, question_hint}
 
 -- AnswersQuestion holds if the output for the question was written, or a prefix of it if a write failed. The summary says
@@ -77,4 +75,4 @@ SeesLengths base bare traffic result = RoundsList base bare traffic.source traff
 pub record RoundsLengths (base : Option Base) (hints : Bool) (traffic : Traffic) (result : Result Summary IoError) : Type 0 where
   pub bare : Bool
   pub rounds : SeesLengths (address_of base) bare traffic result
-  pub hinted : OnOk result (traffic.errors_now.has_failed ≡ false → Appends traffic.errors.taken traffic.errors_now.taken (hint_if (hints && (list_any is_bare (after_base base []) || bare))))
+  pub hinted : OnOk result (traffic.errors_now.has_failed ≡ false → Appends traffic.errors.taken traffic.errors_now.taken (hint_if (hints && (is_bare_base base || bare))))

@@ -7,6 +7,7 @@ ghost use Rattle.cli.specs.declared.question.Question.TheVariants as question;
 ghost use Rattle.cli_words.specs.Questions.{address_of, IsAnswerTo, IsUnanswerable, has_hint, question_hint};
 ghost use Rattle.cli_words.specs.Tasks.{AnswersQuestion};
 
+use crate::bare_digits::is_bare;
 use crate::explaining_bounds::explain_length;
 use crate::number_hint::hint_numbers;
 use crate::rounding::show_round_from;
@@ -139,7 +140,7 @@ fn round<W: Sink, E: Sink>(
 {
     match show_rounding(base, length, sink) {
         Ok(summary) => {
-            hint_numbers(hints, base, &[length], errors);
+            hint_numbers(hints, base, is_bare(length.as_bytes()), errors);
             Ok(summary)
         }
         Err(error) => Err(error),
@@ -194,7 +195,7 @@ fn explain_request<W: Sink, E: Sink>(
 {
     match explain_length(base.address, length, sink) {
         Ok(summary) => {
-            hint_numbers(hints, Some(base), &[length], errors);
+            hint_numbers(hints, Some(base), is_bare(length.as_bytes()), errors);
             Ok(summary)
         }
         Err(error) => Err(error),

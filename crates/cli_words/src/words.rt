@@ -9,7 +9,7 @@ ghost use Rattle.cli_words.specs.Tasks.{RoundsLengths, SeesLengths};
 use crate::decode_options::{options_of, part_of, search_of};
 use crate::file_hint::hint_file;
 use crate::length_list::round_list;
-use crate::number_hint::hint_list;
+use crate::number_hint::hint_numbers;
 use crate::questions::address_of;
 use cc_decode::{Options, Part, annotate, decode_core, decode_words};
 use cc_io::{Format, InputForm, Sink, Summary};
@@ -274,7 +274,7 @@ pub fn round_file<I: Inputs, W: Sink, E: Sink>(
     if result.is_err() {
         return result;
     }
-    hint_list(hints, base, bare, errors);
+    hint_numbers(hints, base, bare, errors);
     result
 }
 
