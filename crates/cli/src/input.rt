@@ -40,16 +40,17 @@ pub trait Inputs {
     // The bytes of an input, if they are known. Opening an input does not change them.
     ghost bytes_of: { Self → InputNameSpec → Option (List ℕ) };
 
-    // Whether the last input that was requested is this one, with this content.
+    // Whether the last input that was requested is this one, with this content. Nothing says which ones were requested
+    // before it, or whether they were read.
     ghost last_asked: { Self → InputNameSpec → ContentSpec → Bool };
 
-    // The last input that was requested was not opened.
+    // An input that was requested was not opened. No other is requested after it.
     ghost has_refused: { Self → Bool };
 
-    /// Makes a source read an input from its start. A failure of the source before that is
-    /// forgotten. The source is the caller's, so that a contract can name its state after the
-    /// command.
+    /// Makes a source read an input from its start. The source is the caller's, so that a contract can name its state
+    /// after the command.
     ///
+    /// Requires: each input that was requested was opened, and the source has not failed.
     /// Errors: `Open` if a file cannot be opened.
     fn open(
         &mut self,
@@ -57,6 +58,8 @@ pub trait Inputs {
         content: Content,
         source: &mut Self::Opened,
     ) -> Result<(), Fault>
+        requires inputs { has_refused self.old ≡ false }
+        requires source { (Self.Opened.state source.old).has_failed ≡ false }
         ensures opened { OnOk result (IfSome (bytes_of self.old input.entry)
             (λ bytes. (Self.Opened.state source.new).unread ≡ Some bytes)) }
         ensures kept { bytes_of self.new ≡ bytes_of self.old }
@@ -76,6 +79,8 @@ pub trait Inputs {
         most: u64,
         source: &mut Self::Opened,
     ) -> Result<u64, Fault>
+        requires inputs { has_refused self.old ≡ false }
+        requires source { (Self.Opened.state source.old).has_failed ≡ false }
         ensures opened { IfOk result (λ passed. IfSome (bytes_of self.old input.entry)
             (λ bytes. (Self.Opened.state source.new).unread ≡ Some (drop passed bytes))) }
         ensures within { IfOk result (λ passed. passed ≤ most) }

@@ -21,11 +21,14 @@ const PIECE: usize = 16384;
 /// What allocates is a method of it, also the reading of the arguments, so that a contract can say that memory ran out
 /// exactly if an allocation failed.
 pub trait Memory {
-    // An allocation has failed in the last call.
+    // A call has failed, since an allocation did. No other method is called after it.
     ghost has_failed: { Self → Bool };
 
     /// Reads the program's arguments as [`read_words`] does, which allocates.
+    ///
+    /// Requires: no call of this memory has failed.
     fn read_words<'a>(&mut self, words: &'a [&'a str]) -> Result<Invocation<'a>, Error>
+        requires { Self.has_failed self.old ≡ false }
         ensures read { IfOk result (λ invocation. (app : App) × IsProgram app
             × IsInvocation (subcommand_of app (texts words.now)) invocation) }
         ensures refused { IfErr result (λ error.
@@ -37,10 +40,11 @@ pub trait Memory {
 
     /// Reads all bytes of a source.
     ///
-    /// Requires: the source has not failed.
+    /// Requires: no call of this memory has failed, and the source has not.
     /// Errors: `Read` if and only if the source failed, and `Memory` if and only if an allocation failed.
     fn read_all<S: Source>(&mut self, source: &mut S) -> Result<Vec<u8>, Fault>
-        requires { (S.state source.old).has_failed ≡ false }
+        requires memory { Self.has_failed self.old ≡ false }
+        requires source { (S.state source.old).has_failed ≡ false }
         ensures gives { IfOk result (λ bytes. GivesAll (S.state source.old) (S.state source.new) bytes.items) }
         ensures read { (result ≡ Err Fault.Read) ↔ ((S.state source.new).has_failed ≡ true) }
         ensures fails { (result ≡ Err Fault.Memory) ↔ (Self.has_failed self.new ≡ true) }
@@ -52,7 +56,7 @@ pub trait Memory {
 pub struct GlobalMemory {
     /// The allocator.
     pub alloc: Global,
-    /// Whether an allocation has failed in the last call.
+    /// Whether a call has failed.
     pub has_failed: bool,
 }
 

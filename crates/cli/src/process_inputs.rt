@@ -90,7 +90,6 @@ impl<'a, R: AllocGlobal + Files + Input + Eprint> Inputs for ProcessInputs<'a, R
         self.last_error.set_input(self.rt.alloc(), input);
         match open_input(self.rt, is_typed, is_watched, input, most, self.last_error) {
             Ok((reader, passed)) => {
-                self.has_refused = false;
                 *source = FromReader::with_limit(
                     Left(Noting::new(reader, self.last_error)),
                     limit_of(content),

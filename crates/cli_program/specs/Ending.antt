@@ -55,7 +55,7 @@ ReadsAsked asked failures = IsUnasked asked failures.last_asked → (failures.op
 
 -- EndsEffect holds if a command with this effect was executed on devices in these states before and after it, and its result ends
 -- the program. The result is an error of a device if and only if that device failed. It also says what was written after a failed
--- opening or allocation, and which input was requested.
+-- opening or allocation, and that an opening or a read failed only if the effect's input was requested last.
 pub record EndsEffect (effect : Effect) (console : Console) (failures : Failures) (ending : Ending) : Type 0 where
   pub result : Result Summary Fault
   pub executes : OnDevices (effect.Does console) result

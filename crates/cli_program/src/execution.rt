@@ -23,7 +23,7 @@ use cli_words::{annotate_file, ask, decode_core_file, decode_file, round_file};
 /// refusal, and nothing is read. The program has refused such values of `replay` before. The machine or the heap is
 /// created next, and then the input is opened.
 ///
-/// Requires: no device has failed.
+/// Requires: the invocation is one that a command line has, and no device has failed.
 /// Errors: `Memory`, `Open`, `Read` and `Write`, each if and only if an allocation, the opening of the command's input,
 /// a read of it, or the sink failed. Memory is allocated by commands that create a machine or a heap, and for the tags
 /// and the core file of `decode`. Nothing is reported then. If the error is `Open`, or if it is `Memory` in `decode`,

@@ -31,6 +31,8 @@ use std::rt::Files;
 /// Executes the command line of the process, and returns the exit status. The arguments have to be UTF-8.
 ///
 /// No clause says that these are the arguments of the process; `tests/program` shows it.
+///
+/// Requires: no call of `memory` has failed.
 pub fn run_program<
     R: Env + AllocGlobal + Files + Input + Print + Eprint,
     M: RunMemory + ReplaySupport,
@@ -101,6 +103,8 @@ fn ask_for_help(words: &mut [&str]) {
 
 /// Executes the arguments of a command line on the files and the standard streams of the process, and returns the
 /// program's end.
+///
+/// Requires: no call of `memory` has failed.
 pub fn answer_on_process<
     R: AllocGlobal + Files + Input + Print + Eprint,
     M: RunMemory + ReplaySupport,
@@ -225,6 +229,7 @@ fn read_invocation<'a, M: ReplaySupport>(
     memory: &mut M,
     words: &'a [&'a str],
 ) -> Result<Invocation<'a>, Error>
+    requires { M.has_failed memory.old ≡ false }
     ensures read { IfOk result (λ invocation. (app : App) × IsProgram app
         × IsInvocation (subcommand_of app (texts words.now)) invocation
         × (has_good_texts M.replay invocation ≡ true)) }

@@ -26,8 +26,10 @@ pub trait ReplaySupport: Memory {
 
     /// Checks the values of `replay`, before its trace is read.
     ///
+    /// Requires: no call of this memory has failed.
     /// Errors: `ValueValidation` if a text is refused, or the program is one without `replay`; an allocation fails.
     fn check_replay(&mut self, values: ReplayValues<'_>) -> Result<(), Error>
+        requires { Self.has_failed self.old ≡ false }
         ensures kinds { FailsBy (kinds_in (value_mistake (replay.accepts values.entry))) result }
         ensures fails { MatchResult result (λ checked. Self.has_failed self.new ≡ false)
             (λ error. (kind_of error ≡ ErrorKind.OutOfMemory) ↔ (Self.has_failed self.new ≡ true)) };

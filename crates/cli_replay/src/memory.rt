@@ -20,26 +20,32 @@ use std::alloc::AllocError;
 pub trait TraceMemory: Memory {
     /// Checks the values of `replay`, before its trace is read.
     ///
+    /// Requires: no call of this memory has failed.
     /// Errors: `ValueValidation` if a text is refused, with a message that names the option and its forms; an
     /// allocation fails.
     fn check_values(&mut self, values: ReplayValues<'_>) -> Result<(), Error>
+        requires { Self.has_failed self.old ≡ false }
         ensures kinds { FailsBy (kinds_in (value_mistake (is_ok (replay_in values.entry)))) result }
         ensures fails { MatchResult result (λ checked. Self.has_failed self.new ≡ false)
             (λ error. (kind_of error ≡ ErrorKind.OutOfMemory) ↔ (Self.has_failed self.new ≡ true)) };
 
     /// Creates a taker of a trace before its first line, as [`TraceTaker::begin`] does.
     ///
+    /// Requires: no call of this memory has failed.
     /// Errors: an allocation fails.
     fn begin<T: TraceTaker>(&mut self, request: &ReplayRequest<'_>) -> Result<T, AllocError>
         requires settings { T.IsFor request.now.settings }
+        requires memory { Self.has_failed self.old ≡ false }
         ensures begins { IfOk result (λ taker. taker ≡ T.begun request.now) }
         ensures goes_on { IfOk result (λ taker. T.is_over taker ≡ false) }
         ensures fails { Self.has_failed self.new ≡ is_err result };
 
     /// Fails if memory ran out in an event.
     ///
+    /// Requires: no call of this memory has failed.
     /// Errors: `AllocError` if `has_run_out`.
     fn fail_if(&mut self, has_run_out: bool) -> Result<(), AllocError>
+        requires { Self.has_failed self.old ≡ false }
         ensures runs_out { is_err result ≡ has_run_out }
         ensures fails { Self.has_failed self.new ≡ has_run_out };
 }

@@ -91,6 +91,7 @@ fn replay_source<M: TraceMemory, S: Source, W: Sink>(
 ) -> Result<Summary, Fault>
     requires settings { IsForHeap request.now.settings }
     requires moves { request.now.output ≡ ScriptOutput → request.now.settings.realloc ≡ Move }
+    requires memory { M.has_failed memory.old ≡ false }
     requires source { (S.state source.old).has_failed ≡ false }
     requires sink { (W.state sink.old).has_failed ≡ false }
     ensures replays { OnStreams (S.state source.old) (S.state source.new) (W.state sink.old) (W.state sink.new)
@@ -130,6 +131,7 @@ fn write_at_end<T: TracePrinter, M: TraceMemory, S: Source, W: Sink>(
     sink: &mut W,
 ) -> Result<Summary, Fault>
     requires settings { T.IsFor request.now.settings }
+    requires memory { M.has_failed memory.old ≡ false }
     requires source { (S.state source.old).has_failed ≡ false }
     requires sink { (W.state sink.old).has_failed ≡ false }
     ensures sums_up { OnStreams (S.state source.old) (S.state source.new) (W.state sink.old) (W.state sink.new)
@@ -154,6 +156,7 @@ fn write_series<T: TracePrinter, M: TraceMemory, S: Source, W: Sink>(
     sink: &mut W,
 ) -> Result<Summary, Fault>
     requires settings { T.IsFor request.now.settings }
+    requires memory { M.has_failed memory.old ≡ false }
     requires source { (S.state source.old).has_failed ≡ false }
     requires sink { (W.state sink.old).has_failed ≡ false }
     ensures samples { OnStreams (S.state source.old) (S.state source.new) (W.state sink.old) (W.state sink.new)
@@ -176,6 +179,7 @@ fn write_script<T: TraceTaker, M: TraceMemory, S: Source, W: Sink>(
     sink: &mut W,
 ) -> Result<Summary, Fault>
     requires settings { T.IsFor request.now.settings }
+    requires memory { M.has_failed memory.old ≡ false }
     requires source { (S.state source.old).has_failed ≡ false }
     requires sink { (W.state sink.old).has_failed ≡ false }
     ensures scripts { OnStreams (S.state source.old) (S.state source.new) (W.state sink.old) (W.state sink.new)

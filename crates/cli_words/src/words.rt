@@ -110,6 +110,7 @@ pub fn decode_core_file<M: Memory, I: Inputs, W: Sink>(
 
 /// Reads all bytes of an input.
 ///
+/// Requires: no device has failed.
 /// Errors: `Open`, `Read` and `Memory`, if the file cannot be opened, or a read of it or an allocation fails.
 fn read_input<M: Memory, I: Inputs>(
     memory: &mut M,
@@ -118,6 +119,8 @@ fn read_input<M: Memory, I: Inputs>(
     source: &mut I::Opened,
 ) -> Result<Vec<u8>, Fault>
     requires memory { M.has_failed memory.old ≡ false }
+    requires source { (I.Opened.state source.old).has_failed ≡ false }
+    requires inputs { I.has_refused inputs.old ≡ false }
     ensures reads { IfOk result (λ read. IfSome (I.bytes_of inputs.old input.entry) (λ bytes. read.items ≡ bytes)) }
     ensures gave { IfOk result (λ read. GaveAll (I.bytes_of inputs.old input.entry) (I.Opened.state source.new)
         read.items) }
