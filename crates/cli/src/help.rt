@@ -268,7 +268,7 @@ They are exact if and only if BASE is B and TOP is B + N.
 With --list, prints one line for each line of FILE, in order. For a line of more than 128 bytes,
 prints `error 3 long`, and for an unterminated last line `error 2 unfinished`.
 
-For input that is not a number, prints `error 1 syntax`, for a number above 2^64 `error 4 range`, and
+For input that is not a number, prints `error 1 syntax`, for one that is too large `error 4 range`, and
 if B + N is above 2^64 `error 9 bounds`, each with exit status 1.
 
 Examples:
@@ -382,8 +382,8 @@ With --tags, lists only tagged words, which then need no permission. Bit i count
 input, also after skipped bytes. If FILE has no bit for a word, prints nothing for it, but the exit
 status is 1; further bits are ignored.
 
-The exit status is 0, or 1 if a line of output is an error, 2 for an invalid command line, and 3 if
-FILE cannot be opened, or the input or output failed.
+The exit status is 0, or 1 if a line of output is an error, 2 for an invalid command line, and 3 if the
+program ran out of memory, a file cannot be opened, or its input or output failed.
 
 Examples:
   printf 'ffff0000000f803d0000000000010070\\n02001fffc48190040000000000001000\\n' | cheri-cap decode
