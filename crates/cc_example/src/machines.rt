@@ -16,7 +16,7 @@ fn makes_slots(machine: &mut Machine, limit: u32) -> bool {
 
 /// A machine is created, at the latest at the second attempt, and makes slots up to its limit.
 fn opens_again(alloc: Global, limit: u32) -> bool {
-    let limit = limit.clamp(1, 16);
+    let limit = limit.clamp(1, 4096);
     let machine = match Machine::with_limit(alloc, limit) {
         Ok(machine) => Ok(machine),
         Err(AllocError) => Machine::with_limit(alloc, limit),
@@ -29,7 +29,7 @@ fn opens_again(alloc: Global, limit: u32) -> bool {
 
 #[test]
 fn machine_opens_again(rt: HostRuntime) {
-    for limit in [1, 2, 16u32] {
+    for limit in [1, 2, 4096u32] {
         assert!(rt; opens_again(rt.alloc(), limit));
     }
 }
