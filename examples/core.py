@@ -6,7 +6,7 @@
     --holds ADDRESS   only words whose bounds contain the address
     --perms NAMES     only words with all these permissions, joined by +
     --unsealed        neither sealed words nor sentries
-    --mapped          only words whose bounds lie in mapped memory, which leaves few by chance
+    --mapped          only words whose bounds lie in mapped memory, which leaves few random ones
 
 A line has the address of the word, the word, its one-line form, and, after ->, the segment that its bounds begin in: the
 file that is mapped there, or the first address of the segment. The status is 1 if CORE is cut short: then the words up to its

@@ -12,12 +12,12 @@
     --unsealed            neither sealed words nor sentries
     --big                 the files are of big-endian memory
 
-A FILE is raw memory: words of 16 bytes from its beginning. Only words whose address is in their bounds are counted, which of
-words by chance few are. A region has the words whose address it contains; `-` is none.
+A FILE is raw memory: words of 16 bytes from its beginning. Only words whose address is in their bounds are counted. That is
+so for few random words. A region has the words whose address it contains; `-` stands for no region.
 The output is a table in CSV: permissions, region, words, sentries, and the largest length of their bounds.
 
 Each worker must have this module's packages and read each FILE by the same name. A part is read again if its worker ends, so
-the table is that of one process. The status is 2 if a FILE cannot be read or is no raw memory.
+the table is as with one process. The status is 2 if a FILE cannot be read or is not raw memory.
 """
 import argparse
 import os
@@ -60,7 +60,7 @@ def counted(part: Part, regions: Sequence[Region], how: Dict[str, Any]) -> Any:
     # numbers in place of names, which are grouped faster
     region = numpy.full(len(table), len(regions))
     for number, (_, base, length) in enumerate(regions):
-        # a length of 2^64 is no number of 64 bits
+        # a length of 2^64 is not a number of 64 bits
         region[table["address"] - numpy.uint64(base) <= numpy.uint64(length - 1)] = number
     frame = pandas.DataFrame({"permissions": table["perms"], "region": region, "words": 1})
     frame["sentries"] = (table["type"] == SENTRY).astype(int)

@@ -39,7 +39,7 @@ def imports_of(line):
 
 
 class Target:
-    """What a name can mean: `name` and `kind`, its `text` without comments, its `code` as it is laid out, its `comment`, and the file
+    """A thing that has a name: `name` and `kind`, its `text` without comments, its `code` as it is laid out, its `comment`, and the file
     `scope`, by whose imports its names are read."""
 
     comment, code, line = "", "", 0
@@ -172,7 +172,7 @@ class Item(Target):
 
 
 class File(Scope):
-    """A file of src/: its imports, and its items. `exports` are the paths that it passes on, and `open` its public modules."""
+    """A file of src/: its imports, and its items. `exports` are the paths that it re-exports, and `open` its public modules."""
 
     def __init__(self, sources, crate, path):
         self.sources, self.crate, self.name, self.source = sources, crate, path.stem, path
@@ -318,7 +318,7 @@ class Sources:
         return self.files.get((crate, "lib")) or self.files.get((crate, "main"))
 
     def is_reached(self, item):
-        """Returns whether callers of the crate reach an item: it is in an open module, or passed on, or called by C, or of a program."""
+        """Returns whether callers of the crate reach an item: it is in an open module, or re-exported, or called by C, or of a program."""
         library, owner, is_of_impl = self.library(item.scope.crate), *item.owner.partition(": ")[:2]
         if not item.is_public and not is_of_impl:
             return library.name == "main" and bool(item.clauses)

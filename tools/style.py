@@ -5,9 +5,8 @@ and public doc comments, and few in all other comments.
 Usage: tools/style.py [--where RULE]     --where RULE prints each place of one rule. docs/check fails if this one does.
 
 Prose is: Markdown without code blocks, code spans and link targets; the strings of help.rt; manual pages without literal displays;
-comments of src, specs, proofs, the header, C, Python and shell; the mistakes that mutants say; the sentences of crates.txt; the
-messages of tools. Names in backquotes are not counted,
-and neither is anything that the program prints.
+comments of src, specs, proofs, tests/units.d, the header, C, Python and shell; the mistakes that mutants say; the sentences of
+crates.txt; the messages of tools. Names in backquotes are not counted, and neither is anything that the program prints.
 """
 import re
 import sys
@@ -129,7 +128,7 @@ def c(text):
 def script(text):
     if "python" in text.split("\n", 1)[0] or text.startswith('"""'):
         found = re.findall(r'"""(.*?)"""', text, flags=re.S)
-        return "\n".join(found + re.findall(r"^\s*#(?!!):?(.*)$|\s{2}#\s(?:.*)$", text, flags=re.M))
+        return "\n".join(found + re.findall(r"(?:^\s*#(?!!):?|[ \t]{2}#[ \t])(.*)$", text, flags=re.M))
     return "\n".join(re.findall(r"^\s*#(?!!)(.*)$", text, flags=re.M))
 
 
@@ -146,22 +145,24 @@ def prose():
         files = (it for pattern in patterns for it in sorted(TOP.glob(pattern)) if it.is_file())
         return {str(it.relative_to(TOP)): how(it.read_text(encoding="utf-8")) for it in files}
 
-    sources = "crates/*/src/**/*.rt"
-    plain = [it for folder in ("tests", "tools", "bench", "examples", "hardware") for it in (TOP / folder).iterdir() if it.is_file() and it.suffix in ("", ".bash")]
-    plain += [TOP / it for it in ("install", "cheri-cap", ".ci/run", "docs/check")]
+    sources = ("crates/*/src/**/*.rt", "tests/units.d/**/*.rattle")
+    # not tests/machine_code: proofs that take minutes are kept by the checksums of its files
+    directories, endings = ("tests", "tools", "bench", "examples", "hardware", "web"), ("", ".bash", ".py")
+    plain = [it for each in directories for it in (TOP / each).iterdir() if it.is_file() and it.suffix in endings and it.name != "style.py"]
+    plain += [TOP / it for it in ("install", "package", "cheri-cap", ".ci/run", "docs/check")]
     return {
-        "pages": all_of(markdown, "*.md", "docs/*.md") | all_of(script, "crates.txt"),
+        "pages": all_of(markdown, "*.md", "docs/*.md", "rust/*.md") | all_of(script, "crates.txt"),
         "help": all_of(strings, "crates/*/src/help.rt") | all_of(manual, "man/*"),
         "header": all_of(c, "include/*.h", "include/*.hpp"),
-        "public": all_of(lambda text: rattle(text, True), sources)
+        "public": all_of(lambda text: rattle(text, True), *sources)
         | all_of(antt, "crates/*/specs/**/*.antt")
         | all_of(mistakes, "mutants/*/*.edit"),
-        "other": all_of(lambda text: rattle(text, False), sources)
+        "other": all_of(lambda text: rattle(text, False), *sources)
         | all_of(antt, "crates/*/proofs/**/*.antt")
-        | all_of(c, "examples/*.c", "examples/*.cpp", "bench/*.[ch]", "hardware/*.sv", "tests/hardware.d/*.sv")
-        | all_of(script, "python/*.py", "gdb/*.py", "lldb/*.py", "conformance/*.py", "hardware/*.py")
+        | all_of(c, "examples/*.c", "examples/*.cpp", "bench/*.[ch]", "tests/*.c", "hardware/*.sv", "tests/hardware.d/*.sv")
+        | all_of(script, "python/*.py", "gdb/*.py", "lldb/*.py", "conformance/*.py")
         | {str(it.relative_to(TOP)): script(it.read_text(encoding="utf-8")) for it in plain}
-        | {f"strings of {it.relative_to(TOP)}": messages(it.read_text(encoding="utf-8")) for it in plain if it.parent.name == "tools" and it.name != "style.py"},
+        | {f"strings of {it.relative_to(TOP)}": messages(it.read_text(encoding="utf-8")) for it in plain if it.parent.name == "tools"},
     }
 
 
