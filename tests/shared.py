@@ -20,10 +20,15 @@ def load(name, path):
     return module
 
 
-def expect(what, got, wanted, told=""):
-    """Reports that a test passes, or ends the tests."""
+def require(what, got, wanted, told=""):
+    """Ends the tests if a result differs from the expected one."""
     if got != wanted:
         sys.exit(f"FAILED {what}: {got!r}, and not {wanted!r}\n{told}")
+
+
+def expect(what, got, wanted, told=""):
+    """Reports that a test passes, or ends the tests."""
+    require(what, got, wanted, told)
     print(f"ok {what}", flush=True)
 
 
