@@ -1,5 +1,4 @@
-# Proves and builds the program or the library that a script needs, if it is not built from the present sources. Sourced by
-# ./cheri-cap, ./install and examples/run, each of which first sets
+# Proves and builds the program or the library that a script needs, if it is not built from the present sources. The script first sets
 #
 #   top    the directory of the checkout
 #   who    the name that begins each line on standard error

@@ -1,4 +1,4 @@
-# Links the shared library from the static one. Sourced by ./install and examples/run, after tools/building.bash.
+# Links the shared library from the static one. Sourced after tools/building.bash.
 
 readonly compiler=${CC:-cc}
 

@@ -1,4 +1,4 @@
-# Proves the crates of a program or of a static library, and builds the product. Sourced by tools/building.bash.
+# Proves the crates of a program or of a static library, and builds the product. Sourced after tools/building.bash.
 #
 # The compiler proves each crate over the libraries of those below it, and writes its library, which has what is proved of it. Crates
 # that do not need each other are proved side by side, from copies of the sources. The libraries are kept for later builds, by checksums.
