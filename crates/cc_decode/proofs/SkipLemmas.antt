@@ -51,7 +51,7 @@ use Rattle.cc_io.specs.declared.devices.Failed.{Failed}
 use Rattle.cc_io.specs.declared.summary.IoError.{IoError}
 use Rattle.cc_io.specs.declared.summary.IoError.TheVariants.{Read, Write}
 use Rattle.cc_io.specs.declared.summary.Summary.{Summary}
-use Rattle.cc_decode.specs.Correct.{Lists}
+use Rattle.cc_decode.specs.Correct.{IsPast, Lists}
 use Rattle.cc_decode.specs.Input.{frame_of, input_entries}
 use Rattle.cc_decode.specs.Output.{AreAnswers, EndsListing, IsEnding}
 use Rattle.cc_decode.specs.Part.{frame_part, unread_after}
@@ -85,6 +85,10 @@ abbrev filler : ℕ → List ℕ
 filler zero = []
 filler (suc n) = 0 ∷ filler n
 
+length-filler : (n : ℕ) → length (filler n) ≡ n
+length-filler zero = refl
+length-filler (suc n) = ap suc (length-filler n)
+
 drop-filler : (n : ℕ) (ys : List ℕ) → drop n (filler n ++ ys) ≡ ys
 drop-filler zero ys = refl
 drop-filler (suc n) ys = drop-filler n ys
@@ -93,27 +97,40 @@ drop-filler (suc n) ys = drop-filler n ys
 record Whole (count : ℕ) (unread left : Option (List ℕ)) (rest : List ℕ) : Type 0 where
   pub text : List ℕ
   pub given : Consumes unread left text
+  pub past : IsPast count text left
   pub rest_is : rest ≡ drop count text
+
+left_is_nil : (xs ys : List ℕ) → xs ++ ys ≡ [] → xs ≡ []
+left_is_nil [] ys e = refl
+left_is_nil (x ∷ xs) ys e = cc (e)
+
+right_is_nil : (xs ys : List ℕ) → xs ++ ys ≡ [] → ys ≡ []
+right_is_nil xs ys e = sym (ap (λ (l : List ℕ). l ++ ys) (left_is_nil xs ys e)) ∙ e
 
 whole : (count : ℕ) (a b c : Option (List ℕ)) (text rest : List ℕ) → Consumes a b text → (length text ≡ count) ⊎ ((length text < count) × IsAtEnd b) → Consumes b c rest
     → Whole count a c rest
-whole count None b c text rest given ends after = record { text = filler count ++ rest; given = tt; rest_is = sym (drop-filler count rest) }
+whole count None b c text rest given ends after = record {
+  text = filler count ++ rest;
+  given = tt;
+  past = inl (omega (arith, length-append (filler count) rest, length-filler count));
+  rest_is = sym (drop-filler count rest);
+}
 whole count (Some xs) None c text rest given ends after = absurd given
 whole count (Some xs) (Some ys) None text rest given ends after = absurd after
 whole count (Some xs) (Some ys) (Some zs) text rest given ends after = record {
   text = text ++ rest;
   given = Consumes-trans (Some xs) (Some ys) (Some zs) text rest given after;
+  past = elim ends [
+    | inl all ↦ inl (omega (arith, length-append text rest, all))
+    | inr fewer ↦ inr (right_is_nil rest zs (sym after ∙ fewer.1))
+  ];
   rest_is = elim ends [
     | inl all ↦ sym (ap (λ (n : ℕ). drop n (text ++ rest)) (sym all) ∙ dropped text rest)
     | inr fewer ↦
-        let none : rest ≡ [] = nothing rest zs (sym after ∙ fewer.1) in
+        let none : rest ≡ [] = left_is_nil rest zs (sym after ∙ fewer.1) in
         none ∙ sym (ap (λ (l : List ℕ). drop count (text ++ l)) none ∙ ap (drop count) (append-nil text) ∙ drop_of_length-le text (omega (arith, fewer.0)))
   ];
 }
-  where
-    nothing : (xs ys : List ℕ) → xs ++ ys ≡ [] → xs ≡ []
-    nothing [] ys e = refl
-    nothing (x ∷ xs) ys e = cc (e)
 
 -- the listing of the part after the skipped bytes
 pub lists_after : (part : Part) (options : Options) (a b c : InputState) (t u : OutputState) (result : Result Summary IoError) (text : List ℕ)
@@ -126,8 +143,11 @@ lists_after part options a b c t u result text skips given outcome serves =
       text = w.text;
       given = w.given;
       lists =
-          inr (subst (λ (l : List ℕ). ServesText (AreAnswers options) (EndsListing options) (frame_part part.count (frame_of options.input)) 32768 512 (header_of options) l
-          (unread_after part.count (input_entries options.input l) c.unread) t.taken u.taken result) w.rest_is serves);
+          inr (
+            w.past,
+            subst (λ (l : List ℕ). ServesText (AreAnswers options) (EndsListing options) (frame_part part.count (frame_of options.input)) 32768 512 (header_of options) l
+                (unread_after part.count (input_entries options.input l) c.unread) t.taken u.taken result) w.rest_is serves,
+          );
       outcome = outcome;
     }
 
@@ -221,10 +241,11 @@ lists_header part options a b t u header none is skips sends =
     (wrote_header options header b.unread t.taken u.taken sends.ok)))
 
 -- the sink failed
-pub stops_at_header : (part : Part) (options : Options) (a b : InputState) (t u : OutputState) (header : List ℕ) (error : IoError) → part.count ≡ Some 0
-    → header ≡ header_of options → Skips {E = Failed} part.skipped a b (Ok tt) → SendsBytes t u header (Err error) → error ≡ Write → Lists part options a b t u (Err error)
-stops_at_header part options a b t u header error none is skips sends write =
-    subst (λ (e : IoError). Lists part options a b t u (Err e)) (sym write)
+pub stops_at_header : (part : Part) (options : Options) (a b : InputState) (t u : OutputState) (header : List ℕ) (error : IoError) (result : Result Summary IoError)
+    → part.count ≡ Some 0 → header ≡ header_of options → Skips {E = Failed} part.skipped a b (Ok tt) → SendsBytes t u header (Err error) → error ≡ Write → result ≡ Err error
+    → Lists part options a b t u result
+stops_at_header part options a b t u header error result none is skips sends write stops =
+    subst (λ (r : Result Summary IoError). Lists part options a b t u r) (sym (stops ∙ ap Err write))
     (lists_after part options a b b t u (Err Write) [] skips (Consumes-nil b.unread)
     (record {
       read = (λ no. absurd (cc no), λ failed. absurd (false≢true (works_after skips ∙ failed)));
@@ -243,15 +264,12 @@ drop_past (x ∷ xs) ys n =
     let same : suc (length xs) + n ≡ suc (length xs + n) = omega arith in
     ap (λ (k : ℕ). drop k (x ∷ (xs ++ ys))) same ∙ drop_past xs ys n
 
-length-filler : (n : ℕ) → length (filler n) ≡ n
-length-filler zero = refl
-length-filler (suc n) = ap suc (length-filler n)
-
 -- the bytes that were passed, and those that the source gave
 record Passed (passed skipped : ℕ) (unread left : Option (List ℕ)) (text : List ℕ) : Type 0 where
   pub whole : List ℕ
   pub given : Consumes unread left whole
   pub few : length whole ≤ passed + length text
+  pub past : IsPast (skipped - passed) text left → IsPast skipped whole left
   pub rest_is : drop (skipped - passed) text ≡ drop skipped whole
 
 pass : (passed skipped : ℕ) (bytes unread left : Option (List ℕ)) (text : List ℕ) → passed ≤ skipped → IfSome bytes (λ xs. unread ≡ Some (drop passed xs))
@@ -260,6 +278,10 @@ pass passed skipped None unread left text fits known given = record {
   whole = filler passed ++ text;
   given = tt;
   few = omega (arith, length-append (filler passed) text, length-filler passed);
+  past = λ p. elim p [
+    | inl enough ↦ inl (omega (arith, length-append (filler passed) text, length-filler passed, enough))
+    | inr over ↦ inr over
+  ];
   rest_is =
       let same : skipped ≡ length (filler passed) + (skipped - passed) = omega (arith, fits, length-filler passed) in
       sym (ap (λ (n : ℕ). drop n (filler passed ++ text)) same ∙ drop_past (filler passed) text (skipped - passed));
@@ -276,9 +298,17 @@ pass passed skipped (Some xs) unread left text fits known given = known_pass lef
         whole = start ++ text;
         given = sym (take-append-drop passed xs) ∙ ap (λ (l : List ℕ). start ++ l) given ∙ sym (append_assoc start text zs);
         few = omega (arith, length-append start text, size);
+        past = λ p. elim p [
+          | inl enough ↦
+              elim (cases_lt (length xs) passed) [
+                | inl short ↦ inr (right_is_nil text zs (sym given ∙ drop_of_length-le xs (omega (arith, short))))
+                | inr long ↦ inl (omega (arith, length-append start text, size, long, enough))
+              ]
+          | inr over ↦ inr over
+        ];
         rest_is = elim (cases_lt (length xs) passed) [
           | inl short ↦
-              let none : text ≡ [] = nothing text zs (sym given ∙ drop_of_length-le xs (omega (arith, short))) in
+              let none : text ≡ [] = left_is_nil text zs (sym given ∙ drop_of_length-le xs (omega (arith, short))) in
               let total : length (start ++ text) ≤ skipped = omega (arith, length-append start text, size, ap length none, short, fits) in
               drop_of_length-le text (omega (arith, ap length none)) ∙ sym (drop_of_length-le (start ++ text) total)
           | inr long ↦
@@ -286,10 +316,6 @@ pass passed skipped (Some xs) unread left text fits known given = known_pass lef
               sym (ap (λ (n : ℕ). drop n (start ++ text)) same ∙ drop_past start text (skipped - passed))
         ];
       }
-    where
-      nothing : (xs ys : List ℕ) → xs ++ ys ≡ [] → xs ≡ []
-      nothing [] ys e = refl
-      nothing (x ∷ xs) ys e = cc e
 
 -- the listing of a part of an input whose first bytes were passed
 pub lists_further : (passed : ℕ) (part : Part) (options : Options) (bytes : Option (List ℕ)) (a c : InputState) (t u : OutputState) (result : Result Summary IoError)
@@ -304,8 +330,11 @@ lists_further passed part options bytes a c t u result fits known l =
       lists = elim l.lists [
         | inl failed ↦ inl (failed.0, omega (arith, w.few, failed.1, fits), failed.2)
         | inr serves ↦
-            inr (subst (λ (rest : List ℕ). ServesText (AreAnswers options) (EndsListing options) (frame_part part.count (frame_of options.input)) 32768 512 (header_of options) rest
-            (unread_after part.count (input_entries options.input rest) c.unread) t.taken u.taken result) w.rest_is serves)
+            inr (
+              w.past serves.0,
+              subst (λ (rest : List ℕ). ServesText (AreAnswers options) (EndsListing options) (frame_part part.count (frame_of options.input)) 32768 512 (header_of options) rest
+                  (unread_after part.count (input_entries options.input rest) c.unread) t.taken u.taken result) w.rest_is serves.1,
+            )
       ];
       outcome = l.outcome;
     }

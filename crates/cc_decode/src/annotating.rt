@@ -19,7 +19,7 @@ use cc_io::{IoError, Sink, Source, Summary, pump};
 /// Requires: neither the source nor the sink has failed.
 /// Errors: `Read` if and only if the source failed. The text before the failure is then written,
 /// except these word characters. `Write` if and only if the sink failed. It has then taken a prefix
-/// of the output, and at most one page of it is lost (32 KiB).
+/// of the output.
 pub fn annotate<R: Source, W: Sink>(source: &mut R, sink: &mut W) -> Result<Summary, IoError>
     requires { AreReady (R.state source.old) (W.state sink.old) }
     ensures { AnnotatesGiven (R.state source.old) (R.state source.new) (W.state sink.old) (W.state sink.new) result }

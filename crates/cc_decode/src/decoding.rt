@@ -27,15 +27,14 @@ use cc_io::{
 /// line that is not 32 hexadecimal digits, with or without `0x` before them, is `error 1 syntax`, or
 /// nothing in a search; it is an error in both cases. The reply to bytes after the last entry,
 /// unless there are none, is that to the word that they are, if they are one, and then
-/// `error 2 unfinished`. In JSON a refusal is an object. The source is read in chunks of up to 16 KiB.
-/// Before each read, all replies to earlier entries are written. The sink is flushed once, at the
-/// end. Allocates nothing.
+/// `error 2 unfinished`. In JSON a refusal is an object. The source is read in chunks of up to 16 KiB,
+/// and the skipped bytes in chunks of up to 64 KiB. Before each read, all replies to earlier entries
+/// are written. The sink is flushed once, at the end. Allocates nothing.
 ///
 /// Requires: neither the source nor the sink has failed.
 /// Errors: `Read` if and only if the source failed. The header and the replies to all entries
 /// before the failure are then written, or nothing if it failed among the skipped bytes. `Write` if
-/// and only if the sink failed. It has then taken a prefix of the header and the replies, and at most
-/// one page of replies is lost (32 KiB).
+/// and only if the sink failed. It has then taken a prefix of the header and the replies.
 pub fn decode_words<R: Source, W: Sink>(
     part: Part,
     options: Options<'_>,
@@ -55,10 +54,8 @@ pub fn decode_words<R: Source, W: Sink>(
     push_header(&mut page, &options);
     // `pump` takes no answerer that is done before the first entry
     if part.count == Some(0) {
-        return match write_and_flush(&page, sink) {
-            Ok(()) => Ok(Summary { any_error: false }),
-            Err(error) => Err(error),
-        };
+        write_and_flush(&page, sink)?;
+        return Ok(Summary { any_error: false });
     }
     match plain_decoder(part.count, options) {
         Some(mut decoder) => list_entries(options.input, &mut decoder, source, sink, &mut page),
