@@ -84,8 +84,7 @@ impl Answerer<ROOM> for Rounder {
 ///
 /// Requires: neither the source nor the sink has failed.
 /// Errors: `Read` if and only if the source failed. The output for all lines before the failure is
-/// then written. `Write` if and only if the sink failed. It has then taken a prefix of the output,
-/// and at most one page of it is lost (32 KiB).
+/// then written. `Write` if and only if the sink failed. It has then taken a prefix of the output.
 pub fn round_list<R: Source, W: Sink>(
     base: Option<u64>,
     source: &mut R,
