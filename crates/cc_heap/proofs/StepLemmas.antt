@@ -158,9 +158,8 @@ frees old between settled new id quarantined settles follows = record {
   follows = follows;
 }
 
-pub replaces : (old between new : Heap) (id requested size : ℕ) → IsReplaced old id requested size between
-    → Settles between new → Replaces old id requested size new
-replaces old between new id requested size is settles = record {
+pub replaces : (old between new : Heap) (id size : ℕ) → IsReplaced old id 1 size between → Settles between new → Replaces old id size new
+replaces old between new id size is settles = record {
   before = is.before;
   is_live = is.is_live;
   made = is.made;
@@ -224,24 +223,23 @@ tries_again old between after new id requested size first (Ok making) not attemp
     )
 tries_again old between after new id requested size first (Err error) not attempts after_is again = tt
 
-not_replaced : (old new : Heap) (id requested size : ℕ) (making : Making) → is_made making ≡ false
-    → AttemptsToReplace old id requested size making new → IsRefused old requested size new
-not_replaced old new id requested size Made not attempts = absurd (never true refl not)
-not_replaced old new id requested size NoRoom not (few, none, same) = record { why = inl none; same = same }
-not_replaced old new id requested size Full not (many, same) = record { why = inr many; same = same }
+not_replaced : (old new : Heap) (id size : ℕ) (making : Making) → is_made making ≡ false
+    → AttemptsToReplace old id size making new → IsRefused old 1 size new
+not_replaced old new id size Made not attempts = absurd (never true refl not)
+not_replaced old new id size NoRoom not (few, none, same) = record { why = inl none; same = same }
+not_replaced old new id size Full not (many, same) = record { why = inr many; same = same }
 
-pub replaces_again : {E : Type 0} (old between after new : Heap) (id requested size : ℕ) (first : Making)
-    (result : Result Making E) → is_made first ≡ false → AttemptsToReplace old id requested size first between
-    → after ≡ swept_heap between → IfOk result (λ making. AttemptsToReplace after id requested size making new)
-    → IfOk result (λ making. TriesToReplace old id requested size making new)
-replaces_again old between after new id requested size first (Ok making) not attempts after_is again =
-    let is = not_replaced old between id requested size first not attempts in
+pub replaces_again : {E : Type 0} (old between after new : Heap) (id size : ℕ) (first : Making)
+    (result : Result Making E) → is_made first ≡ false → AttemptsToReplace old id size first between
+    → after ≡ swept_heap between → IfOk result (λ making. AttemptsToReplace after id size making new)
+    → IfOk result (λ making. TriesToReplace old id size making new)
+replaces_again old between after new id size first (Ok making) not attempts after_is again =
+    let is = not_replaced old between id size first not attempts in
     inr (
       is.why,
-      subst (λ (h : Heap). AttemptsToReplace h id requested size making new)
-          (after_is ∙ ap (λ (h : Heap). swept_heap h) is.same) again,
+      subst (λ (h : Heap). AttemptsToReplace h id size making new) (after_is ∙ ap (λ (h : Heap). swept_heap h) is.same) again,
     )
-replaces_again old between after new id requested size first (Err error) not attempts after_is again = tt
+replaces_again old between after new id size first (Err error) not attempts after_is again = tt
 
 -- ---- events
 

@@ -74,25 +74,25 @@ pub record AllocatesInHeap (old : Heap) (id requested size : ℕ) (outcome : Out
 
 -- Replaces holds if an object is made under a live id while the one under it is held, and then that
 -- one is freed.
-pub record Replaces (old : Heap) (id requested size : ℕ) (new : Heap) : Type 0 where
+pub record Replaces (old : Heap) (id size : ℕ) (new : Heap) : Type 0 where
   pub before : Object
   pub is_live : object_under old id ≡ Some before
   pub made : Heap
-  pub makes : MakesHeapObject old id requested size made
+  pub makes : MakesHeapObject old id 1 size made
   pub frees : FreesHeapObject made id before new
 
 -- AttemptsToReplace holds if the object under the id is replaced, or the new one has no place, and nothing
 -- changes.
-abbrev pub AttemptsToReplace : Heap → (id requested size : ℕ) → Making → Heap → Type 0
-AttemptsToReplace old id requested size Made new = Replaces old id requested size new
-AttemptsToReplace old id requested size making new = Attempts old id requested size making new
+abbrev pub AttemptsToReplace : Heap → (id size : ℕ) → Making → Heap → Type 0
+AttemptsToReplace old id size Made new = Replaces old id size new
+AttemptsToReplace old id size making new = Attempts old id 1 size making new
 
 -- TriesToReplace holds if the object is replaced, or otherwise the quarantine is swept once, and it is
 -- attempted again.
-abbrev pub TriesToReplace : Heap → (id requested size : ℕ) → Making → Heap → Type 0
-TriesToReplace old id requested size making new =
-    ((making ≡ Made) × Replaces old id requested size new)
-    ⊎ (HasNoRoomInHeap old requested size × AttemptsToReplace (swept_heap old) id requested size making new)
+abbrev pub TriesToReplace : Heap → (id size : ℕ) → Making → Heap → Type 0
+TriesToReplace old id size making new =
+    ((making ≡ Made) × Replaces old id size new)
+    ⊎ (HasNoRoomInHeap old 1 size × AttemptsToReplace (swept_heap old) id size making new)
 
 -- FollowsReplacing holds if the policy is followed once an object is replaced, or the object is freed
 -- nevertheless if it was not.
@@ -101,33 +101,32 @@ FollowsReplacing old id Made new = FollowsPolicy old new
 FollowsReplacing old id _ new = FreesInHeap old id new
 
 -- ReplacesLive holds if an object is made under a live id in place of the one under it.
-pub record ReplacesLive (old : Heap) (id requested size : ℕ) (outcome : Outcome) (new : Heap) : Type 0 where
+pub record ReplacesLive (old : Heap) (id size : ℕ) (outcome : Outcome) (new : Heap) : Type 0 where
   pub making : Making
   pub tried : Heap
-  pub tries : TriesToReplace old id requested size making tried
+  pub tries : TriesToReplace old id size making tried
   pub follows : FollowsReplacing tried id making new
   pub is_told : outcome ≡ outcome_of false false (Some making)
 
 -- Moves holds if an object is made under one id while that under another is held, and then that one is
 -- freed.
-pub record Moves (old : Heap) (from to requested size : ℕ) (outcome : Outcome) (new : Heap) : Type 0 where
+pub record Moves (old : Heap) (from to size : ℕ) (outcome : Outcome) (new : Heap) : Type 0 where
   pub made : Heap
-  pub allocates : AllocatesInHeap old to requested size outcome made
+  pub allocates : AllocatesInHeap old to 1 size outcome made
   pub frees : FreesInHeap made from new
 
 -- AllocatesUnknown holds if there is no object to replace, and one is made.
-pub record AllocatesUnknown (old : Heap) (id requested size : ℕ) (outcome : Outcome) (new : Heap) : Type 0 where
+pub record AllocatesUnknown (old : Heap) (id size : ℕ) (outcome : Outcome) (new : Heap) : Type 0 where
   pub told : Outcome
-  pub allocates : AllocatesInHeap old id requested size told new
+  pub allocates : AllocatesInHeap old id 1 size told new
   pub is_told : outcome ≡ record told { unknown = true }
 
 -- Remakes holds if an object is made in place of the one under an id, if that is live.
-abbrev pub Remakes : Heap → (from to requested size : ℕ) → Outcome → Heap → Type 0
-Remakes old from to requested size outcome new =
-    (IsNone (object_under old from) × AllocatesUnknown old to requested size outcome new)
+abbrev pub Remakes : Heap → (from to size : ℕ) → Outcome → Heap → Type 0
+Remakes old from to size outcome new =
+    (IsNone (object_under old from) × AllocatesUnknown old to size outcome new)
     ⊎ (IsSome (object_under old from)
-    × (((from ≡ to) × ReplacesLive old to requested size outcome new)
-    ⊎ ((from ≢ to) × Moves old from to requested size outcome new)))
+    × (((from ≡ to) × ReplacesLive old to size outcome new) ⊎ ((from ≢ to) × Moves old from to size outcome new)))
 
 -- ClearsOther holds if the object under `to` is freed, if that is another id than `from` and live.
 abbrev pub ClearsOther : Heap → (from to : ℕ) → (was_live : Bool) → Heap → Type 0
@@ -136,19 +135,20 @@ ClearsOther old from to was_live new =
 
 -- KeepsPlace holds if the object under `from` stays in its place and has the id `to` from then on. An object
 -- that was live under `to` is freed first.
-pub record KeepsPlace (old : Heap) (from to : ℕ) (object : Object) (requested size : ℕ) (outcome : Outcome) (new : Heap) : Type 0 where
+pub record KeepsPlace (old : Heap) (from to : ℕ) (object : Object) (size : ℕ) (outcome : Outcome)
+    (new : Heap) : Type 0 where
   pub was_live : Bool
   pub cleared : Heap
   pub clears : ClearsOther old from to was_live cleared
-  pub keeps : KeepsHeapObject cleared from to object requested size new
+  pub keeps : KeepsHeapObject cleared from to object 1 size new
   pub is_told : outcome ≡ outcome_of was_live false None
 
 -- Reallocates holds if the object under an id keeps its bytes, if it can and shall, and otherwise an object is
 -- made in place of it.
-abbrev pub Reallocates : Heap → (from to requested size : ℕ) → Outcome → Heap → Type 0
-Reallocates old from to requested size outcome new =
-    MatchOption (kept_object old from requested size) (Remakes old from to requested size outcome new)
-    (λ object. KeepsPlace old from to object requested size outcome new)
+abbrev pub Reallocates : Heap → (from to size : ℕ) → Outcome → Heap → Type 0
+Reallocates old from to size outcome new =
+    MatchOption (kept_object old from size) (Remakes old from to size outcome new)
+    (λ object. KeepsPlace old from to object size outcome new)
 
 -- ---- An event.
 
@@ -168,8 +168,7 @@ IsEvent old (Allocate id size align) outcome new =
     AllocatesInHeap old id align (size_of size) outcome new
 IsEvent old (Clear id size) outcome new =
     AllocatesInHeap old id 1 (size_of size) outcome new
-IsEvent old (Reallocate from to size) outcome new =
-    Reallocates old from to 1 (size_of size) outcome new
+IsEvent old (Reallocate from to size) outcome new = Reallocates old from to (size_of size) outcome new
 IsEvent old (Free id) outcome new = FreesOrNot old id outcome new
 IsEvent old Sweep outcome new = (new ≡ swept_if_asked old) × (outcome ≡ outcome_of false false None)
 IsEvent old (Clock time) outcome new = (new ≡ old) × (outcome ≡ outcome_of false false None)

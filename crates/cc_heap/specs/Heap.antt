@@ -116,11 +116,12 @@ pub record FreesHeapObject (old : Heap) (id : ℕ) (object : Object) (new : Heap
 abbrev pub resized : Object → (requested size : ℕ) → Object
 resized object requested size = record { size = size; align = requested; span = object.span }
 
--- The object under an id whose bytes a reallocation to this size and requested alignment keeps, or none.
-abbrev pub kept_object : Heap → (id requested size : ℕ) → Option Object
-kept_object heap id requested size =
+-- The object under an id whose bytes a reallocation to this size keeps, or none.
+abbrev pub kept_object : Heap → (id size : ℕ) → Option Object
+kept_object heap id size =
     if is_keep heap.settings.realloc
-    then option_and_then (λ object. if can_take heap.settings.align requested size object.span then Some object else None) (object_under heap id)
+    then option_and_then (λ object. if can_take heap.settings.align 1 size object.span then Some object else None)
+    (object_under heap id)
     else None
 
 -- KeepsHeapObject holds if the object under `from` keeps its bytes, and has this size and the id `to`. The entries

@@ -230,7 +230,7 @@ impl<P: Placer> Heap<P> {
         match event {
             Event::Allocate { id, size, align } => self.allocate(id, align, size.max(1)),
             Event::Clear { id, size } => self.allocate(id, 1, size.max(1)),
-            Event::Reallocate { old, new, size } => self.reallocate(old, new, 1, size.max(1)),
+            Event::Reallocate { old, new, size } => self.reallocate(old, new, size.max(1)),
             Event::Free { id } => Ok(self.free_or_not(id)),
             Event::Sweep => Ok(self.sweep_if_asked()),
             Event::Clock(_) => Ok(NOTHING),
@@ -297,30 +297,23 @@ impl<P: Placer> Heap<P> {
 
     /// Keeps the object under `from` in its place, if it can and shall stay, and otherwise makes an
     /// object in place of it.
-    fn reallocate(
-        &mut self,
-        from: u64,
-        to: u64,
-        align: u64,
-        size: u64,
-    ) -> Result<Outcome, AllocError>
+    fn reallocate(&mut self, from: u64, to: u64, size: u64) -> Result<Outcome, AllocError>
         requires some { 0 < size }
-        requires aligned { IsPowerOfTwo align }
-        ensures reallocates { IfOk result (λ outcome. Reallocates self.old from to align size outcome self.new) }
+        ensures reallocates { IfOk result (λ outcome. Reallocates self.old from to size outcome self.new) }
         ensures refused { OnErr result (FailsToReallocate self.old from to self.new) }
     {
-        match self.kept_object(from, align, size) {
-            Some(object) => self.keep(from, to, object, align, size),
-            None => self.remake(from, to, align, size),
+        match self.kept_object(from, size) {
+            Some(object) => self.keep(from, to, object, size),
+            None => self.remake(from, to, size),
         }
     }
 
     /// Returns the object under an id whose bytes a reallocation keeps, or `None`.
-    fn kept_object(&self, id: u64, align: u64, size: u64) -> Option<Object>
+    fn kept_object(&self, id: u64, size: u64) -> Option<Object>
         requires some { 0 < size }
-        ensures value { result ≡ kept_object self.now id align size }
+        ensures value { result ≡ kept_object self.now id size }
         ensures live { IfSome result (λ object. object_under self.now id ≡ Some object) }
-        ensures fits { IfSome result (λ object. can_take self.now.settings.align align size object.span ≡ true) }
+        ensures fits { IfSome result (λ object. can_take self.now.settings.align 1 size object.span ≡ true) }
     {
         if !self.settings.realloc.is_keep() {
             return None;
@@ -328,7 +321,7 @@ impl<P: Placer> Heap<P> {
         let Some(object) = self.objects.get(&id).copied() else {
             return None;
         };
-        if can_take(self.settings.align, align, size, object.span) {
+        if can_take(self.settings.align, 1, size, object.span) {
             Some(object)
         } else {
             None
@@ -338,23 +331,15 @@ impl<P: Placer> Heap<P> {
     /// Keeps an object in its place, under another id if `to` is not `from`. The object under `to`
     /// is then freed first, if that is live.
     #[tactic(auto, using(crate::proofs::StepLemmas::fails_to_keep))]
-    fn keep(
-        &mut self,
-        from: u64,
-        to: u64,
-        object: Object,
-        align: u64,
-        size: u64,
-    ) -> Result<Outcome, AllocError>
+    fn keep(&mut self, from: u64, to: u64, object: Object, size: u64) -> Result<Outcome, AllocError>
         requires some { 0 < size }
-        requires aligned { IsPowerOfTwo align }
         requires live { object_under self.old from ≡ Some object }
-        requires fits { can_take self.old.settings.align align size object.span ≡ true }
-        ensures keeps { IfOk result (λ outcome. KeepsPlace self.old from to object align size outcome self.new) }
+        requires fits { can_take self.old.settings.align 1 size object.span ≡ true }
+        ensures keeps { IfOk result (λ outcome. KeepsPlace self.old from to object size outcome self.new) }
         ensures refused { OnErr result (FailsToReallocate self.old from to self.new) }
     {
         let was_live = self.clear_other(from, to);
-        self.resize(from, to, object, align, size)?;
+        self.resize(from, to, object, size)?;
         Ok(Outcome {
             was_live,
             ..NOTHING
@@ -377,25 +362,17 @@ impl<P: Placer> Heap<P> {
     /// Gives the object under `from` another size and the id `to`. Its bytes stay.
     ///
     /// On `Err` nothing changes.
-    fn resize(
-        &mut self,
-        from: u64,
-        to: u64,
-        before: Object,
-        align: u64,
-        size: u64,
-    ) -> Result<(), AllocError>
+    fn resize(&mut self, from: u64, to: u64, before: Object, size: u64) -> Result<(), AllocError>
         requires some { 0 < size }
-        requires aligned { IsPowerOfTwo align }
         requires live { object_under self.old from ≡ Some before }
-        requires fits { can_take self.old.settings.align align size before.span ≡ true }
+        requires fits { can_take self.old.settings.align 1 size before.span ≡ true }
         requires fresh { nat_eq from to ≡ false → IsNone (object_under self.old to) }
-        ensures keeps { OnOk result (KeepsHeapObject self.old from to before align size self.new) }
+        ensures keeps { OnOk result (KeepsHeapObject self.old from to before 1 size self.new) }
         ensures refused { OnErr result (self.new ≡ self.old) }
     {
         let object = Object {
             size,
-            align,
+            align: 1,
             span: before.span,
         };
         put_for(&mut self.objects, from, to, object)?;
@@ -405,48 +382,45 @@ impl<P: Placer> Heap<P> {
     }
 
     /// Makes an object in place of that under `from`, if that is live.
-    fn remake(&mut self, from: u64, to: u64, align: u64, size: u64) -> Result<Outcome, AllocError>
+    fn remake(&mut self, from: u64, to: u64, size: u64) -> Result<Outcome, AllocError>
         requires some { 0 < size }
-        requires aligned { IsPowerOfTwo align }
-        ensures remakes { IfOk result (λ outcome. Remakes self.old from to align size outcome self.new) }
+        ensures remakes { IfOk result (λ outcome. Remakes self.old from to size outcome self.new) }
         ensures refused { OnErr result (FailsToReallocate self.old from to self.new) }
     {
         if !self.objects.contains_key(&from) {
-            let outcome = self.allocate(to, align, size)?;
+            let outcome = self.allocate(to, 1, size)?;
             return Ok(Outcome {
                 unknown: true,
                 ..outcome
             });
         }
         if from == to {
-            return self.replace_live(to, align, size);
+            return self.replace_live(to, size);
         }
-        self.move_to(from, to, align, size)
+        self.move_to(from, to, size)
     }
 
     /// Makes an object under `to`, and then frees that under `from`.
-    fn move_to(&mut self, from: u64, to: u64, align: u64, size: u64) -> Result<Outcome, AllocError>
+    fn move_to(&mut self, from: u64, to: u64, size: u64) -> Result<Outcome, AllocError>
         requires some { 0 < size }
-        requires aligned { IsPowerOfTwo align }
         requires live { IsSome (object_under self.old from) }
         requires differ { nat_eq to from ≡ false }
-        ensures moves { IfOk result (λ outcome. Moves self.old from to align size outcome self.new) }
+        ensures moves { IfOk result (λ outcome. Moves self.old from to size outcome self.new) }
         ensures refused { OnErr result (FailsToMake self.old to self.new) }
     {
-        let outcome = self.allocate(to, align, size)?;
+        let outcome = self.allocate(to, 1, size)?;
         self.free(from);
         Ok(outcome)
     }
 
     /// Makes an object under a live id in place of the one under it.
-    fn replace_live(&mut self, id: u64, align: u64, size: u64) -> Result<Outcome, AllocError>
+    fn replace_live(&mut self, id: u64, size: u64) -> Result<Outcome, AllocError>
         requires some { 0 < size }
-        requires aligned { IsPowerOfTwo align }
         requires live { IsSome (object_under self.old id) }
-        ensures replaces { IfOk result (λ outcome. ReplacesLive self.old id align size outcome self.new) }
+        ensures replaces { IfOk result (λ outcome. ReplacesLive self.old id size outcome self.new) }
         ensures refused { OnErr result (IsSweptOrNot self.old self.new) }
     {
-        let making = self.try_to_replace(id, align, size)?;
+        let making = self.try_to_replace(id, size)?;
         self.follow_replacing(id, making);
         Ok(Outcome {
             making: Some(making),
@@ -487,34 +461,32 @@ impl<P: Placer> Heap<P> {
 
     /// Replaces the object under a live id, with one sweep and one more attempt if there is no place
     /// for the new one or the heap is full.
-    fn try_to_replace(&mut self, id: u64, align: u64, size: u64) -> Result<Making, AllocError>
+    fn try_to_replace(&mut self, id: u64, size: u64) -> Result<Making, AllocError>
         requires some { 0 < size }
-        requires aligned { IsPowerOfTwo align }
         requires live { IsSome (object_under self.old id) }
-        ensures tries { IfOk result (λ making. TriesToReplace self.old id align size making self.new) }
+        ensures tries { IfOk result (λ making. TriesToReplace self.old id size making self.new) }
         ensures refused { OnErr result (IsSweptOrNot self.old self.new) }
         ensures live { IfOk result (λ making. IsSome (object_under self.new id)) }
     {
-        let making = self.replace(id, align, size)?;
+        let making = self.replace(id, size)?;
         if making.is_made() {
             return Ok(making);
         }
         self.sweep();
-        self.replace(id, align, size)
+        self.replace(id, size)
     }
 
     /// Makes an object under a live id, and frees the one that was under it.
     ///
     /// On `Err` nothing changes.
-    fn replace(&mut self, id: u64, align: u64, size: u64) -> Result<Making, AllocError>
+    fn replace(&mut self, id: u64, size: u64) -> Result<Making, AllocError>
         requires some { 0 < size }
-        requires aligned { IsPowerOfTwo align }
         requires live { IsSome (object_under self.old id) }
-        ensures attempts { IfOk result (λ making. AttemptsToReplace self.old id align size making self.new) }
+        ensures attempts { IfOk result (λ making. AttemptsToReplace self.old id size making self.new) }
         ensures refused { OnErr result (self.new ≡ self.old) }
         ensures live { IsSome (object_under self.new id) }
     {
-        let making = self.make(id, align, size)?;
+        let making = self.make(id, 1, size)?;
         if !making.is_made() {
             return Ok(making);
         }

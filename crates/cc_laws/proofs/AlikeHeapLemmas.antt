@@ -339,53 +339,53 @@ allocates old live new another id requested size outcome told once same first se
 
 -- ---- an object is made in place of another
 
-replaces : (old : Heap) (live : List Entry) (new another : Heap) (id requested size : ℕ) → AreOnceIn old.memory.live
-    → HaveSameSums old.memory.live live → Replaces old id requested size new → Replaces (re live old) id requested size another
+replaces : (old : Heap) (live : List Entry) (new another : Heap) (id size : ℕ) → AreOnceIn old.memory.live
+    → HaveSameSums old.memory.live live → Replaces old id size new → Replaces (re live old) id size another
     → IsReordered new another
-replaces old live new another id requested size once same first second =
+replaces old live new another id size once same first second =
     let found : Some second.before ≡ Some first.before =
     sym second.is_live ∙ lookup_along id old.memory.live live once same ∙ first.is_live in
     let before : second.before ≡ first.before = (let e = found in cc) in
-    let made = makes old live same first.made second.made id requested size first.makes second.makes in
+    let made = makes old live same first.made second.made id 1 size first.makes second.makes in
     frees_object first.made made.live made.same new another id first.before first.frees
     (subst (λ (o : Object). FreesHeapObject (re made.live first.made) id o another) before
     (subst (λ (h : Heap). FreesHeapObject h id second.before another) made.is second.frees))
 
-attempts_to_replace : (old : Heap) (live : List Entry) (new another : Heap) (id requested size : ℕ) (making told : Making)
-    → AreOnceIn old.memory.live → HaveSameSums old.memory.live live → AttemptsToReplace old id requested size making new
-    → AttemptsToReplace (re live old) id requested size told another → AreSame making told new another
-attempts_to_replace old live new another id requested size Made Made once same first second =
-    record { same = refl; heap = replaces old live new another id requested size once same first second }
-attempts_to_replace old live new another id requested size NoRoom NoRoom once same (few, none, is) (few_too, none_too, is_other) =
+attempts_to_replace : (old : Heap) (live : List Entry) (new another : Heap) (id size : ℕ) (making told : Making)
+    → AreOnceIn old.memory.live → HaveSameSums old.memory.live live → AttemptsToReplace old id size making new
+    → AttemptsToReplace (re live old) id size told another → AreSame making told new another
+attempts_to_replace old live new another id size Made Made once same first second =
+    record { same = refl; heap = replaces old live new another id size once same first second }
+attempts_to_replace old live new another id size NoRoom NoRoom once same (few, none, is) (few_too, none_too, is_other) =
     record { same = refl; heap = stays old live same new another is is_other }
-attempts_to_replace old live new another id requested size Full Full once same (many, is) (many_too, is_other) =
+attempts_to_replace old live new another id size Full Full once same (many, is) (many_too, is_other) =
     record { same = refl; heap = stays old live same new another is is_other }
-attempts_to_replace old live new another id requested size Made NoRoom once same first (few, none, is) =
-    absurd (made_or_not old live first.made id requested size same first.makes (inl none))
-attempts_to_replace old live new another id requested size Made Full once same first (many, is) =
-    absurd (made_or_not old live first.made id requested size same first.makes (inr many))
-attempts_to_replace old live new another id requested size NoRoom Made once same (few, none, is) second =
-    absurd (made_or_not (re live old) old.memory.live second.made id requested size (back old live same) second.makes (inl none))
-attempts_to_replace old live new another id requested size Full Made once same (many, is) second =
-    absurd (made_or_not (re live old) old.memory.live second.made id requested size (back old live same) second.makes (inr many))
-attempts_to_replace old live new another id requested size NoRoom Full once same (few, none, is) (many, is_other) =
+attempts_to_replace old live new another id size Made NoRoom once same first (few, none, is) =
+    absurd (made_or_not old live first.made id 1 size same first.makes (inl none))
+attempts_to_replace old live new another id size Made Full once same first (many, is) =
+    absurd (made_or_not old live first.made id 1 size same first.makes (inr many))
+attempts_to_replace old live new another id size NoRoom Made once same (few, none, is) second =
+    absurd (made_or_not (re live old) old.memory.live second.made id 1 size (back old live same) second.makes (inl none))
+attempts_to_replace old live new another id size Full Made once same (many, is) second =
+    absurd (made_or_not (re live old) old.memory.live second.made id 1 size (back old live same) second.makes (inr many))
+attempts_to_replace old live new another id size NoRoom Full once same (few, none, is) (many, is_other) =
     absurd (omega (arith, few, many, held-length old live same))
-attempts_to_replace old live new another id requested size Full NoRoom once same (many, is) (few, none, is_other) =
+attempts_to_replace old live new another id size Full NoRoom once same (many, is) (few, none, is_other) =
     absurd (omega (arith, few, many, held-length old live same))
 
-tries_to_replace : (old : Heap) (live : List Entry) (new another : Heap) (id requested size : ℕ) (making told : Making)
-    → AreOnceIn old.memory.live → HaveSameSums old.memory.live live → TriesToReplace old id requested size making new
-    → TriesToReplace (re live old) id requested size told another → AreSame making told new another
-tries_to_replace old live new another id requested size making told once same (inl (made, first)) (inl (made_too, second)) =
-    record { same = made_too ∙ sym made; heap = replaces old live new another id requested size once same first second }
-tries_to_replace old live new another id requested size making told once same (inl (made, first)) (inr (none, second)) =
-    absurd (made_or_not old live first.made id requested size same first.makes none)
-tries_to_replace old live new another id requested size making told once same (inr (none, first)) (inl (made, second)) =
-    absurd (made_or_not (re live old) old.memory.live second.made id requested size (back old live same) second.makes none)
-tries_to_replace old live new another id requested size making told once same (inr (none, first)) (inr (none_too, second)) =
+tries_to_replace : (old : Heap) (live : List Entry) (new another : Heap) (id size : ℕ) (making told : Making)
+    → AreOnceIn old.memory.live → HaveSameSums old.memory.live live → TriesToReplace old id size making new
+    → TriesToReplace (re live old) id size told another → AreSame making told new another
+tries_to_replace old live new another id size making told once same (inl (made, first)) (inl (made_too, second)) =
+    record { same = made_too ∙ sym made; heap = replaces old live new another id size once same first second }
+tries_to_replace old live new another id size making told once same (inl (made, first)) (inr (none, second)) =
+    absurd (made_or_not old live first.made id 1 size same first.makes none)
+tries_to_replace old live new another id size making told once same (inr (none, first)) (inl (made, second)) =
+    absurd (made_or_not (re live old) old.memory.live second.made id 1 size (back old live same) second.makes none)
+tries_to_replace old live new another id size making told once same (inr (none, first)) (inr (none_too, second)) =
     let sweep = sweeps old live same (swept_heap old) (swept_heap (re live old)) refl refl in
-    attempts_to_replace (swept_heap old) sweep.live new another id requested size making told once sweep.same first
-    (subst (λ (h : Heap). AttemptsToReplace h id requested size told another) sweep.is second)
+    attempts_to_replace (swept_heap old) sweep.live new another id size making told once sweep.same first
+    (subst (λ (h : Heap). AttemptsToReplace h id size told another) sweep.is second)
 
 follows_replacing : (old : Heap) (live : List Entry) (new another : Heap) (id : ℕ) (making : Making) → AreOnceIn old.memory.live
     → HaveSameSums old.memory.live live → FollowsReplacing old id making new → FollowsReplacing (re live old) id making another
@@ -394,11 +394,11 @@ follows_replacing old live new another id Made once same first second = follows 
 follows_replacing old live new another id NoRoom once same first second = frees old live new another id once same first second
 follows_replacing old live new another id Full once same first second = frees old live new another id once same first second
 
-replaces_live : (old : Heap) (live : List Entry) (new another : Heap) (id requested size : ℕ) (outcome told : Outcome)
-    → AreOnceIn old.memory.live → HaveSameSums old.memory.live live → (first : ReplacesLive old id requested size outcome new)
-    → ReplacesLive (re live old) id requested size told another → AreOnceIn first.tried.memory.live → AreSame outcome told new another
-replaces_live old live new another id requested size outcome told once same first second tried_once =
-    let tried = tries_to_replace old live first.tried second.tried id requested size first.making second.making once same first.tries second.tries in
+replaces_live : (old : Heap) (live : List Entry) (new another : Heap) (id size : ℕ) (outcome told : Outcome)
+    → AreOnceIn old.memory.live → HaveSameSums old.memory.live live → (first : ReplacesLive old id size outcome new)
+    → ReplacesLive (re live old) id size told another → AreOnceIn first.tried.memory.live → AreSame outcome told new another
+replaces_live old live new another id size outcome told once same first second tried_once =
+    let tried = tries_to_replace old live first.tried second.tried id size first.making second.making once same first.tries second.tries in
     let second_follows : FollowsReplacing (re tried.heap.live first.tried) id first.making another =
     subst (λ (m : Making). FollowsReplacing (re tried.heap.live first.tried) id m another) tried.same
     (subst (λ (h : Heap). FollowsReplacing h id second.making another) tried.heap.is second.follows) in
@@ -407,22 +407,22 @@ replaces_live old live new another id requested size outcome told once same firs
       heap = follows_replacing first.tried tried.heap.live new another id first.making tried_once tried.heap.same first.follows second_follows;
     }
 
-moves : (old : Heap) (live : List Entry) (new another : Heap) (from to requested size : ℕ) (outcome told : Outcome)
-    → AreOnceIn old.memory.live → HaveSameSums old.memory.live live → (first : Moves old from to requested size outcome new)
-    → Moves (re live old) from to requested size told another → AreOnceIn first.made.memory.live → AreSame outcome told new another
-moves old live new another from to requested size outcome told once same first second made_once =
-    let made = allocates old live first.made second.made to requested size outcome told once same first.allocates second.allocates in
+moves : (old : Heap) (live : List Entry) (new another : Heap) (from to size : ℕ) (outcome told : Outcome)
+    → AreOnceIn old.memory.live → HaveSameSums old.memory.live live → (first : Moves old from to size outcome new)
+    → Moves (re live old) from to size told another → AreOnceIn first.made.memory.live → AreSame outcome told new another
+moves old live new another from to size outcome told once same first second made_once =
+    let made = allocates old live first.made second.made to 1 size outcome told once same first.allocates second.allocates in
     record {
       same = made.same;
       heap = frees first.made made.heap.live new another from made_once made.heap.same first.frees
           (subst (λ (h : Heap). FreesInHeap h from another) made.heap.is second.frees);
     }
 
-allocates_unknown : (old : Heap) (live : List Entry) (new another : Heap) (id requested size : ℕ) (outcome told : Outcome)
-    → AreOnceIn old.memory.live → HaveSameSums old.memory.live live → AllocatesUnknown old id requested size outcome new
-    → AllocatesUnknown (re live old) id requested size told another → AreSame outcome told new another
-allocates_unknown old live new another id requested size outcome told once same first second =
-    let made = allocates old live new another id requested size first.told second.told once same first.allocates second.allocates in
+allocates_unknown : (old : Heap) (live : List Entry) (new another : Heap) (id size : ℕ) (outcome told : Outcome)
+    → AreOnceIn old.memory.live → HaveSameSums old.memory.live live → AllocatesUnknown old id size outcome new
+    → AllocatesUnknown (re live old) id size told another → AreSame outcome told new another
+allocates_unknown old live new another id size outcome told once same first second =
+    let made = allocates old live new another id 1 size first.told second.told once same first.allocates second.allocates in
     record {
       same = second.is_told ∙ ap (λ (o : Outcome). record o { unknown = true }) made.same ∙ sym first.is_told;
       heap = made.heap;
@@ -434,30 +434,30 @@ live_or_not None is none = let e = is in cc
 live_or_not (Some object) is none = let e = none in cc
 
 -- what the heaps between have: each id once
-abbrev OnceBetween : (old : Heap) (from to requested size : ℕ) (outcome : Outcome) (new : Heap) → Remakes old from to requested size outcome new → Type 0
-OnceBetween old from to requested size outcome new (inl none) = Unit {0}
-OnceBetween old from to requested size outcome new (inr (some, inl (one, first))) = AreOnceIn first.tried.memory.live
-OnceBetween old from to requested size outcome new (inr (some, inr (two, first))) = AreOnceIn first.made.memory.live
+abbrev OnceBetween : (old : Heap) (from to size : ℕ) (outcome : Outcome) (new : Heap) → Remakes old from to size outcome new → Type 0
+OnceBetween old from to size outcome new (inl none) = Unit {0}
+OnceBetween old from to size outcome new (inr (some, inl (one, first))) = AreOnceIn first.tried.memory.live
+OnceBetween old from to size outcome new (inr (some, inr (two, first))) = AreOnceIn first.made.memory.live
 
-remakes : (old : Heap) (live : List Entry) (new another : Heap) (from to requested size : ℕ) (outcome told : Outcome)
-    → AreOnceIn old.memory.live → HaveSameSums old.memory.live live → (first : Remakes old from to requested size outcome new)
-    → OnceBetween old from to requested size outcome new first
-    → Remakes (re live old) from to requested size told another → AreSame outcome told new another
-remakes old live new another from to requested size outcome told once same (inl (none, first)) between (inl (none_too, second)) =
-    allocates_unknown old live new another to requested size outcome told once same first second
-remakes old live new another from to requested size outcome told once same (inl (none, first)) between (inr (some, second)) =
+remakes : (old : Heap) (live : List Entry) (new another : Heap) (from to size : ℕ) (outcome told : Outcome)
+    → AreOnceIn old.memory.live → HaveSameSums old.memory.live live → (first : Remakes old from to size outcome new)
+    → OnceBetween old from to size outcome new first
+    → Remakes (re live old) from to size told another → AreSame outcome told new another
+remakes old live new another from to size outcome told once same (inl (none, first)) between (inl (none_too, second)) =
+    allocates_unknown old live new another to size outcome told once same first second
+remakes old live new another from to size outcome told once same (inl (none, first)) between (inr (some, second)) =
     absurd (live_or_not (object_under old from) (subst IsSome (lookup_along from old.memory.live live once same) some) none)
-remakes old live new another from to requested size outcome told once same (inr (some, first)) between (inl (none, second)) =
+remakes old live new another from to size outcome told once same (inr (some, first)) between (inl (none, second)) =
     absurd (live_or_not (object_under old from) some (subst IsNone (lookup_along from old.memory.live live once same) none))
-remakes old live new another from to requested size outcome told once same (inr (some, inl (one, first))) between
+remakes old live new another from to size outcome told once same (inr (some, inl (one, first))) between
     (inr (some_too, inl (one_too, second))) =
-    replaces_live old live new another to requested size outcome told once same first second between
-remakes old live new another from to requested size outcome told once same (inr (some, inr (two, first))) between
+    replaces_live old live new another to size outcome told once same first second between
+remakes old live new another from to size outcome told once same (inr (some, inr (two, first))) between
     (inr (some_too, inr (two_too, second))) =
-    moves old live new another from to requested size outcome told once same first second between
-remakes old live new another from to requested size outcome told once same (inr (some, inl (one, first))) between
+    moves old live new another from to size outcome told once same first second between
+remakes old live new another from to size outcome told once same (inr (some, inl (one, first))) between
     (inr (some_too, inr (two, second))) = absurd (two one)
-remakes old live new another from to requested size outcome told once same (inr (some, inr (two, first))) between
+remakes old live new another from to size outcome told once same (inr (some, inr (two, first))) between
     (inr (some_too, inl (one, second))) = absurd (two one)
 
 -- ---- an object keeps its place
@@ -472,16 +472,16 @@ clears_other old live new another from to was_live is_live once same (inr (two, 
 clears_other old live new another from to was_live is_live once same (inl (one, not, is)) (inr (two, second)) = absurd (two one)
 clears_other old live new another from to was_live is_live once same (inr (two, first)) (inl (one, not, is)) = absurd (two one)
 
-keeps_place : (old : Heap) (live : List Entry) (new another : Heap) (from to : ℕ) (object : Object) (requested size : ℕ)
+keeps_place : (old : Heap) (live : List Entry) (new another : Heap) (from to : ℕ) (object : Object) (size : ℕ)
     (outcome told : Outcome) → AreOnceIn old.memory.live → HaveSameSums old.memory.live live
-    → KeepsPlace old from to object requested size outcome new → KeepsPlace (re live old) from to object requested size told another
+    → KeepsPlace old from to object size outcome new → KeepsPlace (re live old) from to object size told another
     → AreSame outcome told new another
-keeps_place old live new another from to object requested size outcome told once same first second =
+keeps_place old live new another from to object size outcome told once same first second =
     let cleared = clears_other old live first.cleared second.cleared from to first.was_live second.was_live once same first.clears second.clears in
     record {
       same = second.is_told ∙ ap (λ (b : Bool). outcome_of b false None) cleared.same ∙ sym first.is_told;
-      heap = keeps_object first.cleared cleared.heap.live cleared.heap.same new another from to object requested size first.keeps
-          (subst (λ (h : Heap). KeepsHeapObject h from to object requested size another) cleared.heap.is second.keeps);
+      heap = keeps_object first.cleared cleared.heap.live cleared.heap.same new another from to object 1 size first.keeps
+          (subst (λ (h : Heap). KeepsHeapObject h from to object 1 size another) cleared.heap.is second.keeps);
     }
 
 -- ---- each id stays that of one object at most
@@ -553,12 +553,12 @@ allocates_once : (old new : Heap) (id requested size : ℕ) (outcome : Outcome) 
 allocates_once old new id requested size outcome once made =
     tries_once made.cleared new id requested size made.making (clears_without old made.cleared id made.was_live once made.clears) made.tries
 
-replaces_once : (old new : Heap) (id requested size : ℕ) → AreOnceIn old.memory.live → Replaces old id requested size new
+replaces_once : (old new : Heap) (id size : ℕ) → AreOnceIn old.memory.live → Replaces old id size new
     → AreOnceIn new.memory.live
-replaces_once old new id requested size once made other =
+replaces_once old new id size once made other =
     let makes = made.makes in
     let freed = made.frees in
-    let object = memory_object old.settings.align requested makes.start size in
+    let object = memory_object old.settings.align 1 makes.start size in
     omega (
       arith,
       once other,
@@ -570,17 +570,17 @@ replaces_once old new id requested size once made other =
       ap (λ (h : Heap). sum_by (id_weight other) h.memory.live) freed.is_new,
     )
 
-attempts_to_replace_once : (old new : Heap) (id requested size : ℕ) (making : Making) → AreOnceIn old.memory.live
-    → AttemptsToReplace old id requested size making new → AreOnceIn new.memory.live
-attempts_to_replace_once old new id requested size Made once made = replaces_once old new id requested size once made
-attempts_to_replace_once old new id requested size NoRoom once (few, none, is) = once_along old new is once
-attempts_to_replace_once old new id requested size Full once (many, is) = once_along old new is once
+attempts_to_replace_once : (old new : Heap) (id size : ℕ) (making : Making) → AreOnceIn old.memory.live
+    → AttemptsToReplace old id size making new → AreOnceIn new.memory.live
+attempts_to_replace_once old new id size Made once made = replaces_once old new id size once made
+attempts_to_replace_once old new id size NoRoom once (few, none, is) = once_along old new is once
+attempts_to_replace_once old new id size Full once (many, is) = once_along old new is once
 
-tries_to_replace_once : (old new : Heap) (id requested size : ℕ) (making : Making) → AreOnceIn old.memory.live
-    → TriesToReplace old id requested size making new → AreOnceIn new.memory.live
-tries_to_replace_once old new id requested size making once (inl (is, made)) = replaces_once old new id requested size once made
-tries_to_replace_once old new id requested size making once (inr (none, again)) =
-    attempts_to_replace_once (swept_heap old) new id requested size making once again
+tries_to_replace_once : (old new : Heap) (id size : ℕ) (making : Making) → AreOnceIn old.memory.live
+    → TriesToReplace old id size making new → AreOnceIn new.memory.live
+tries_to_replace_once old new id size making once (inl (is, made)) = replaces_once old new id size once made
+tries_to_replace_once old new id size making once (inr (none, again)) =
+    attempts_to_replace_once (swept_heap old) new id size making once again
 
 follows_replacing_once : (old new : Heap) (id : ℕ) (making : Making) → AreOnceIn old.memory.live → FollowsReplacing old id making new
     → AreOnceIn new.memory.live
@@ -589,20 +589,20 @@ follows_replacing_once old new id NoRoom once freed = (frees_without old new id 
 follows_replacing_once old new id Full once freed = (frees_without old new id once freed).once
 
 -- of the heap after, and of the heaps between
-record RemakesOnce (old : Heap) (from to requested size : ℕ) (outcome : Outcome) (new : Heap) (made : Remakes old from to requested size outcome new)
+record RemakesOnce (old : Heap) (from to size : ℕ) (outcome : Outcome) (new : Heap) (made : Remakes old from to size outcome new)
     : Type 0 where
-  between : OnceBetween old from to requested size outcome new made
+  between : OnceBetween old from to size outcome new made
   once : AreOnceIn new.memory.live
 
-remakes_once : (old new : Heap) (from to requested size : ℕ) (outcome : Outcome) → AreOnceIn old.memory.live
-    → (made : Remakes old from to requested size outcome new) → RemakesOnce old from to requested size outcome new made
-remakes_once old new from to requested size outcome once (inl (none, made)) =
-    record { between = _; once = allocates_once old new to requested size made.told once made.allocates }
-remakes_once old new from to requested size outcome once (inr (some, inl (one, made))) =
-    let tried = tries_to_replace_once old made.tried to requested size made.making once made.tries in
+remakes_once : (old new : Heap) (from to size : ℕ) (outcome : Outcome) → AreOnceIn old.memory.live
+    → (made : Remakes old from to size outcome new) → RemakesOnce old from to size outcome new made
+remakes_once old new from to size outcome once (inl (none, made)) =
+    record { between = _; once = allocates_once old new to 1 size made.told once made.allocates }
+remakes_once old new from to size outcome once (inr (some, inl (one, made))) =
+    let tried = tries_to_replace_once old made.tried to size made.making once made.tries in
     record { between = tried; once = follows_replacing_once made.tried new to made.making tried made.follows }
-remakes_once old new from to requested size outcome once (inr (some, inr (two, made))) =
-    let between = allocates_once old made.made to requested size outcome once made.allocates in
+remakes_once old new from to size outcome once (inr (some, inr (two, made))) =
+    let between = allocates_once old made.made to 1 size outcome once made.allocates in
     record { between = between; once = (frees_without made.made new from between made.frees).once }
 
 -- an object that keeps its place, under another id that is not live or under its own
@@ -617,14 +617,14 @@ keeps_sums old new from to object requested size other kept = omega (
   ap (λ (h : Heap). sum_by (id_weight other) h.memory.live) kept.is_new,
 )
 
-keeps_place_once : (old new : Heap) (from to : ℕ) (object : Object) (requested size : ℕ) (outcome : Outcome) → AreOnceIn old.memory.live
-    → KeepsPlace old from to object requested size outcome new → AreOnceIn new.memory.live
-keeps_place_once old new from to object requested size outcome once kept = by_clearing kept.clears
+keeps_place_once : (old new : Heap) (from to : ℕ) (object : Object) (size : ℕ) (outcome : Outcome) → AreOnceIn old.memory.live
+    → KeepsPlace old from to object size outcome new → AreOnceIn new.memory.live
+keeps_place_once old new from to object size outcome once kept = by_clearing kept.clears
   where
     by_clearing : ClearsOther old from to kept.was_live kept.cleared → AreOnceIn new.memory.live
     by_clearing (inl (one, not, is)) other =
         let weight = ap (λ (n : ℕ). id_weight other (n, object)) one in
-        omega (arith, keeps_sums kept.cleared new from to object requested size other kept.keeps, weight, once_along old kept.cleared is once other)
+        omega (arith, keeps_sums kept.cleared new from to object 1 size other kept.keeps, weight, once_along old kept.cleared is once other)
     by_clearing (inr (two, clears)) other =
         let cleared = clears_without old kept.cleared to kept.was_live once clears in
         by_test (nat_eq other to) refl cleared
@@ -632,31 +632,31 @@ keeps_place_once old new from to object requested size outcome once kept = by_cl
         by_test : (b : Bool) → nat_eq other to ≡ b → IsOnceWithout to kept.cleared → sum_by (id_weight other) new.memory.live ≤ 1
         by_test false is cleared =
             let weight : id_weight other (to, object) ≡ 0 = ap (λ (t : Bool). cond t 1 0) is in
-            omega (arith, keeps_sums kept.cleared new from to object requested size other kept.keeps, weight, cleared.once other)
+            omega (arith, keeps_sums kept.cleared new from to object 1 size other kept.keeps, weight, cleared.once other)
         by_test true is cleared =
             let weight : id_weight other (to, object) ≡ 1 = ap (λ (t : Bool). cond t 1 0) is in
             let same = same_key other to is in
             let none : sum_by (id_weight other) kept.cleared.memory.live ≡ 0 =
             ap (λ (n : ℕ). sum_by (id_weight n) kept.cleared.memory.live) same ∙ cleared.none in
-            omega (arith, keeps_sums kept.cleared new from to object requested size other kept.keeps, weight, none)
+            omega (arith, keeps_sums kept.cleared new from to object 1 size other kept.keeps, weight, none)
 
 -- ---- an event
 
-reallocates_once : (old new : Heap) (from to requested size : ℕ) (outcome : Outcome) → AreOnceIn old.memory.live
-    → Reallocates old from to requested size outcome new → AreOnceIn new.memory.live
-reallocates_once old new from to requested size outcome once = by_kept (kept_object old from requested size)
+reallocates_once : (old new : Heap) (from to size : ℕ) (outcome : Outcome) → AreOnceIn old.memory.live
+    → Reallocates old from to size outcome new → AreOnceIn new.memory.live
+reallocates_once old new from to size outcome once = by_kept (kept_object old from size)
   where
     by_kept : (kept : Option Object)
-        → MatchOption kept (Remakes old from to requested size outcome new) (λ object. KeepsPlace old from to object requested size outcome new)
+        → MatchOption kept (Remakes old from to size outcome new) (λ object. KeepsPlace old from to object size outcome new)
         → AreOnceIn new.memory.live
-    by_kept None made = (remakes_once old new from to requested size outcome once made).once
-    by_kept (Some object) kept = keeps_place_once old new from to object requested size outcome once kept
+    by_kept None made = (remakes_once old new from to size outcome once made).once
+    by_kept (Some object) kept = keeps_place_once old new from to object size outcome once kept
 
 pub event_once : (old : Heap) (event : Event) (outcome : Outcome) (new : Heap) → AreOnceIn old.memory.live → IsEvent old event outcome new
     → AreOnceIn new.memory.live
 event_once old (Allocate id size align) outcome new once made = allocates_once old new id align (size_of size) outcome once made
 event_once old (Clear id size) outcome new once made = allocates_once old new id 1 (size_of size) outcome once made
-event_once old (Reallocate from to size) outcome new once made = reallocates_once old new from to 1 (size_of size) outcome once made
+event_once old (Reallocate from to size) outcome new once made = reallocates_once old new from to (size_of size) outcome once made
 event_once old (Free id) outcome new once freed = (clears_without old new id freed.is_live once freed.frees).once
 event_once old Sweep outcome new once (is, told) = once_along (swept_if_asked old) new is (by_policy (is_of_the_trace old.settings.policy))
   where
@@ -665,29 +665,29 @@ event_once old Sweep outcome new once (is, told) = once_along (swept_if_asked ol
     by_policy false = once
 event_once old (Clock time) outcome new once (is, told) = once_along old new is once
 
-reallocates : (old : Heap) (live : List Entry) (new another : Heap) (from to requested size : ℕ) (outcome told : Outcome)
-    → AreOnceIn old.memory.live → HaveSameSums old.memory.live live → Reallocates old from to requested size outcome new
-    → Reallocates (re live old) from to requested size told another → AreSame outcome told new another
-reallocates old live new another from to requested size outcome told once same first second =
-    by_kept (kept_object old from requested size) first (subst Second kept second)
+reallocates : (old : Heap) (live : List Entry) (new another : Heap) (from to size : ℕ) (outcome told : Outcome)
+    → AreOnceIn old.memory.live → HaveSameSums old.memory.live live → Reallocates old from to size outcome new
+    → Reallocates (re live old) from to size told another → AreSame outcome told new another
+reallocates old live new another from to size outcome told once same first second =
+    by_kept (kept_object old from size) first (subst Second kept second)
   where
     Second : Option Object → Type 0
-    Second found = MatchOption found (Remakes (re live old) from to requested size told another)
-        (λ object. KeepsPlace (re live old) from to object requested size told another)
+    Second found = MatchOption found (Remakes (re live old) from to size told another)
+        (λ object. KeepsPlace (re live old) from to object size told another)
 
-    kept : kept_object (re live old) from requested size ≡ kept_object old from requested size
+    kept : kept_object (re live old) from size ≡ kept_object old from size
     kept = ap (λ (found : Option Object).
         if is_keep old.settings.realloc
-        then option_and_then (λ object. if can_take old.settings.align requested size object.span then Some object else None) found
+        then option_and_then (λ object. if can_take old.settings.align 1 size object.span then Some object else None) found
         else None) (lookup_along from old.memory.live live once same)
 
     by_kept : (found : Option Object)
-        → MatchOption found (Remakes old from to requested size outcome new) (λ object. KeepsPlace old from to object requested size outcome new)
+        → MatchOption found (Remakes old from to size outcome new) (λ object. KeepsPlace old from to object size outcome new)
         → Second found → AreSame outcome told new another
     by_kept None made other =
-        remakes old live new another from to requested size outcome told once same made
-        (remakes_once old new from to requested size outcome once made).between other
-    by_kept (Some object) made other = keeps_place old live new another from to object requested size outcome told once same made other
+        remakes old live new another from to size outcome told once same made
+        (remakes_once old new from to size outcome once made).between other
+    by_kept (Some object) made other = keeps_place old live new another from to object size outcome told once same made other
 
 frees_or_not : (old : Heap) (live : List Entry) (new another : Heap) (id : ℕ) (outcome told : Outcome) → AreOnceIn old.memory.live
     → HaveSameSums old.memory.live live → FreesOrNot old id outcome new → FreesOrNot (re live old) id told another
@@ -707,7 +707,7 @@ event_one old live new another (Allocate id size align) outcome told once same f
 event_one old live new another (Clear id size) outcome told once same first second =
     allocates old live new another id 1 (size_of size) outcome told once same first second
 event_one old live new another (Reallocate from to size) outcome told once same first second =
-    reallocates old live new another from to 1 (size_of size) outcome told once same first second
+    reallocates old live new another from to (size_of size) outcome told once same first second
 event_one old live new another (Free id) outcome told once same first second = frees_or_not old live new another id outcome told once same first second
 event_one old live new another Sweep outcome told once same (is, is_told) (is_other, is_told_too) =
     record { same = is_told_too ∙ sym is_told; heap = by_policy (is_of_the_trace old.settings.policy) is is_other }

@@ -72,28 +72,25 @@ followed_by old between new first other = record {
 some_size : (size : ℕ) → 0 < max size 1
 some_size size = omega arith
 
-remade : (old new : Heap) (from to size : ℕ) (outcome : Outcome) → IsKept old → Remakes old from to 1 (max size 1) outcome new
+remade : (old new : Heap) (from to size : ℕ) (outcome : Outcome) → IsKept old → Remakes old from to (max size 1) outcome new
     → IsHistory old new
 remade old new from to size outcome kept (inl (none, is)) =
     part old new
     (allocates old new to 1 (max size 1) is.told kept (some_size size) (unit-some old.settings.align (max size 1)) is.allocates).history
 remade old new from to size outcome kept (inr (live, inl (one, is))) =
-    part old new
-    (replaces_live old new to 1 (max size 1) outcome kept (some_size size) (unit-some old.settings.align (max size 1)) is).history
+    part old new (replaces_live old new to (max size 1) outcome kept (some_size size) is).history
 remade old new from to size outcome kept (inr (live, inr (two, is))) =
-    part old new
-    (moves old is.made new from to 1 (max size 1) outcome kept (some_size size) (unit-some old.settings.align (max size 1)) two
-    is.allocates is.frees).history
+    part old new (moves old is.made new from to (max size 1) outcome kept (some_size size) two is.allocates is.frees).history
 
 -- no object keeps its place if reallocations move objects
 reallocated : (old new : Heap) (from to size : ℕ) (outcome : Outcome) → IsKept old
-    → Reallocates old from to 1 (max size 1) outcome new → IsHistory old new
+    → Reallocates old from to (max size 1) outcome new → IsHistory old new
 reallocated old new from to size outcome kept is =
     remade old new from to size outcome kept
-    (subst (λ (found : Option Object). MatchOption found (Remakes old from to 1 (max size 1) outcome new)
-    (λ object. KeepsPlace old from to object 1 (max size 1) outcome new)) none is)
+    (subst (λ (found : Option Object). MatchOption found (Remakes old from to (max size 1) outcome new)
+    (λ object. KeepsPlace old from to object (max size 1) outcome new)) none is)
   where
-    none : kept_object old from 1 (max size 1) ≡ None
+    none : kept_object old from (max size 1) ≡ None
     none =
         ap (λ (r : Reallocation). if is_keep r
         then option_and_then (λ object. if can_take old.settings.align 1 (max size 1) object.span then Some object else None) (object_under old from)

@@ -150,9 +150,9 @@ allocates old id requested size =
       };
     }
 
-allocates_unknown : (old : Heap) (id requested size : ℕ) → Leads (AllocatesUnknown old id requested size)
-allocates_unknown old id requested size =
-    let made = allocates old id requested size in
+allocates_unknown : (old : Heap) (id size : ℕ) → Leads (AllocatesUnknown old id size)
+allocates_unknown old id size =
+    let made = allocates old id 1 size in
     record {
       result = record made.result { unknown = true };
       new = made.new;
@@ -162,11 +162,11 @@ allocates_unknown old id requested size =
 -- ---- an object is made in place of another
 
 -- once an object is made, the one before it is still under the id
-replaces : (old : Heap) (id requested size : ℕ) (before : Object) → object_under old id ≡ Some before
-    → Has (MakesHeapObject old id requested size) → Has (Replaces old id requested size)
-replaces old id requested size before found made =
+replaces : (old : Heap) (id size : ℕ) (before : Object) → object_under old id ≡ Some before
+    → Has (MakesHeapObject old id 1 size) → Has (Replaces old id size)
+replaces old id size before found made =
     let makes = made.is in
-    let object = memory_object old.settings.align requested makes.start size in
+    let object = memory_object old.settings.align 1 makes.start size in
     let rest = remove_entry (nat_eq id) old.memory.live in
     let takes : IsPermutation made.new.memory.live ((id, before) ∷ (id, object) ∷ rest) =
     reordered made.new.memory.live ((id, before) ∷ (id, object) ∷ rest) (λ weight. omega (
@@ -184,44 +184,43 @@ replaces old id requested size before found made =
       is = record { before = before; is_live = found; made = made.new; makes = makes; frees = freed.is };
     }
 
-attempts_to_replace : (old : Heap) (id requested size : ℕ) (before : Object) → object_under old id ≡ Some before
-    → Leads (AttemptsToReplace old id requested size)
-attempts_to_replace old id requested size before found = by_attempt (makes_or_not old id requested size)
+attempts_to_replace : (old : Heap) (id size : ℕ) (before : Object) → object_under old id ≡ Some before
+    → Leads (AttemptsToReplace old id size)
+attempts_to_replace old id size before found = by_attempt (makes_or_not old id 1 size)
   where
-    refused : Leads (Attempts old id requested size) → HasNoRoomInHeap old requested size → Leads (AttemptsToReplace old id requested size)
+    refused : Leads (Attempts old id 1 size) → HasNoRoomInHeap old 1 size → Leads (AttemptsToReplace old id size)
     refused attempt none = by_result attempt.result attempt.is
       where
-        by_result : (making : Making) → Attempts old id requested size making attempt.new → Leads (AttemptsToReplace old id requested size)
+        by_result : (making : Making) → Attempts old id 1 size making attempt.new → Leads (AttemptsToReplace old id size)
         by_result Made made =
-            let other = replaces old id requested size before found (record { new = attempt.new; is = made }) in
+            let other = replaces old id size before found (record { new = attempt.new; is = made }) in
             record { result = Made; new = other.new; is = other.is }
         by_result NoRoom is = record { result = NoRoom; new = attempt.new; is = is }
         by_result Full is = record { result = Full; new = attempt.new; is = is }
 
-    by_attempt : Has (MakesHeapObject old id requested size) ⊎ HasNoRoomInHeap old requested size → Leads (AttemptsToReplace old id requested size)
+    by_attempt : Has (MakesHeapObject old id 1 size) ⊎ HasNoRoomInHeap old 1 size → Leads (AttemptsToReplace old id size)
     by_attempt (inl made) =
-        let other = replaces old id requested size before found made in record { result = Made; new = other.new; is = other.is }
-    by_attempt (inr none) = refused (attempts old id requested size) none
+        let other = replaces old id size before found made in record { result = Made; new = other.new; is = other.is }
+    by_attempt (inr none) = refused (attempts old id 1 size) none
 
-tries_to_replace : (old : Heap) (id requested size : ℕ) (before : Object) → object_under old id ≡ Some before
-    → Leads (TriesToReplace old id requested size)
-tries_to_replace old id requested size before found = elim (makes_or_not old id requested size) [
+tries_to_replace : (old : Heap) (id size : ℕ) (before : Object) → object_under old id ≡ Some before → Leads (TriesToReplace old id size)
+tries_to_replace old id size before found = elim (makes_or_not old id 1 size) [
   | inl made ↦
-      let other = replaces old id requested size before found made in
+      let other = replaces old id size before found made in
       record { result = Made; new = other.new; is = inl (refl, other.is) }
   | inr none ↦
-      let again = attempts_to_replace (swept_heap old) id requested size before found in
+      let again = attempts_to_replace (swept_heap old) id size before found in
       record { result = again.result; new = again.new; is = inr (none, again.is) }
 ]
 
 -- if none is made, the object before is still under the id
-still_live : (old tried : Heap) (id requested size : ℕ) (making : Making) → is_made making ≡ false
-    → TriesToReplace old id requested size making tried → object_under tried id ≡ object_under old id
-still_live old tried id requested size Made not tries = let e = not in cc
-still_live old tried id requested size NoRoom not (inl (is, made)) = let e = is in cc
-still_live old tried id requested size Full not (inl (is, made)) = let e = is in cc
-still_live old tried id requested size NoRoom not (inr (none, (few, no_place, is))) = ap (λ (h : Heap). object_under h id) is
-still_live old tried id requested size Full not (inr (none, (many, is))) = ap (λ (h : Heap). object_under h id) is
+still_live : (old tried : Heap) (id size : ℕ) (making : Making) → is_made making ≡ false
+    → TriesToReplace old id size making tried → object_under tried id ≡ object_under old id
+still_live old tried id size Made not tries = let e = not in cc
+still_live old tried id size NoRoom not (inl (is, made)) = let e = is in cc
+still_live old tried id size Full not (inl (is, made)) = let e = is in cc
+still_live old tried id size NoRoom not (inr (none, (few, no_place, is))) = ap (λ (h : Heap). object_under h id) is
+still_live old tried id size Full not (inr (none, (many, is))) = ap (λ (h : Heap). object_under h id) is
 
 follows_replacing : (old : Heap) (id : ℕ) (object : Object) (making : Making) → (is_made making ≡ false → object_under old id ≡ Some object)
     → Has (FollowsReplacing old id making)
@@ -229,12 +228,11 @@ follows_replacing old id object Made found = let after = follows old in record {
 follows_replacing old id object NoRoom found = let after = frees old id object (found refl) in record { new = after.new; is = after.is }
 follows_replacing old id object Full found = let after = frees old id object (found refl) in record { new = after.new; is = after.is }
 
-replaces_live : (old : Heap) (id requested size : ℕ) (before : Object) → object_under old id ≡ Some before
-    → Leads (ReplacesLive old id requested size)
-replaces_live old id requested size before found =
-    let tried = tries_to_replace old id requested size before found in
+replaces_live : (old : Heap) (id size : ℕ) (before : Object) → object_under old id ≡ Some before → Leads (ReplacesLive old id size)
+replaces_live old id size before found =
+    let tried = tries_to_replace old id size before found in
     let after = follows_replacing tried.new id before tried.result (λ not.
-    still_live old tried.new id requested size tried.result not tried.is ∙ found) in
+    still_live old tried.new id size tried.result not tried.is ∙ found) in
     record {
       result = outcome_of false false (Some tried.result);
       new = after.new;
@@ -295,25 +293,25 @@ allocates_other old new id other requested size outcome once differ made =
     tries_other made.cleared new id other requested size made.making without differ made.tries
     ∙ clears_other_id old made.cleared id other made.was_live once differ made.clears
 
-moves : (old : Heap) (from to requested size : ℕ) (object : Object) → AreOnceIn old.memory.live → (from ≡ to → ⊥)
-    → object_under old from ≡ Some object → Leads (Moves old from to requested size)
-moves old from to requested size object once differ found =
-    let made = allocates old to requested size in
-    let freed = frees made.new from object (allocates_other old made.new to from requested size made.result once differ made.is ∙ found) in
+moves : (old : Heap) (from to size : ℕ) (object : Object) → AreOnceIn old.memory.live → (from ≡ to → ⊥)
+    → object_under old from ≡ Some object → Leads (Moves old from to size)
+moves old from to size object once differ found =
+    let made = allocates old to 1 size in
+    let freed = frees made.new from object (allocates_other old made.new to from 1 size made.result once differ made.is ∙ found) in
     record { result = made.result; new = freed.new; is = record { made = made.new; allocates = made.is; frees = freed.is } }
 
-remakes : (old : Heap) (from to requested size : ℕ) → AreOnceIn old.memory.live → Leads (Remakes old from to requested size)
-remakes old from to requested size once = by_found (object_under old from) refl (ℕ_discrete from to)
+remakes : (old : Heap) (from to size : ℕ) → AreOnceIn old.memory.live → Leads (Remakes old from to size)
+remakes old from to size once = by_found (object_under old from) refl (ℕ_discrete from to)
   where
-    by_found : (found : Option Object) → object_under old from ≡ found → Dec (from ≡ to) → Leads (Remakes old from to requested size)
+    by_found : (found : Option Object) → object_under old from ≡ found → Dec (from ≡ to) → Leads (Remakes old from to size)
     by_found None is same =
-        let made = allocates_unknown old to requested size in
+        let made = allocates_unknown old to size in
         record { result = made.result; new = made.new; is = inl (subst IsNone (sym is) refl, made.is) }
     by_found (Some object) is (yes same) =
-        let made = replaces_live old to requested size object (subst (λ (n : ℕ). object_under old n ≡ Some object) same is) in
+        let made = replaces_live old to size object (subst (λ (n : ℕ). object_under old n ≡ Some object) same is) in
         record { result = made.result; new = made.new; is = inr (subst IsSome (sym is) refl, inl (same, made.is)) }
     by_found (Some object) is (no differ) =
-        let made = moves old from to requested size object once differ is in
+        let made = moves old from to size object once differ is in
         record { result = made.result; new = made.new; is = inr (subst IsSome (sym is) refl, inr (differ, made.is)) }
 
 -- ---- an object keeps its place
@@ -354,13 +352,13 @@ keeps_object old from to object requested size found fits =
       };
     }
 
-keeps_place : (old : Heap) (from to : ℕ) (object : Object) (requested size : ℕ) → AreOnceIn old.memory.live → object_under old from ≡ Some object
-    → can_take old.settings.align requested size object.span ≡ true → Leads (KeepsPlace old from to object requested size)
-keeps_place old from to object requested size once found fits =
+keeps_place : (old : Heap) (from to : ℕ) (object : Object) (size : ℕ) → AreOnceIn old.memory.live → object_under old from ≡ Some object
+    → can_take old.settings.align 1 size object.span ≡ true → Leads (KeepsPlace old from to object size)
+keeps_place old from to object size once found fits =
     let cleared = clears_other old from to (ℕ_discrete from to) in
     let settings = cleared_settings old cleared.new from to cleared.result cleared.is in
-    let kept = keeps_object cleared.new from to object requested size (cleared_under old cleared.new from to cleared.result once cleared.is ∙ found)
-    (ap (λ (s : Settings). can_take s.align requested size object.span) settings ∙ fits) in
+    let kept = keeps_object cleared.new from to object 1 size (cleared_under old cleared.new from to cleared.result once cleared.is ∙ found)
+    (ap (λ (s : Settings). can_take s.align 1 size object.span) settings ∙ fits) in
     record {
       result = outcome_of cleared.result false None;
       new = kept.new;
@@ -368,17 +366,16 @@ keeps_place old from to object requested size once found fits =
     }
 
 -- an object whose bytes are kept is under the id, and its bytes can be taken
-record IsKeptObject (old : Heap) (from requested size : ℕ) (object : Object) : Type 0 where
+record IsKeptObject (old : Heap) (from size : ℕ) (object : Object) : Type 0 where
   found : object_under old from ≡ Some object
-  fits : can_take old.settings.align requested size object.span ≡ true
+  fits : can_take old.settings.align 1 size object.span ≡ true
 
-kept_is : (old : Heap) (from requested size : ℕ) (object : Object) → kept_object old from requested size ≡ Some object
-    → IsKeptObject old from requested size object
-kept_is old from requested size object is = by_policy (is_keep old.settings.realloc) (object_under old from) refl is
+kept_is : (old : Heap) (from size : ℕ) (object : Object) → kept_object old from size ≡ Some object → IsKeptObject old from size object
+kept_is old from size object is = by_policy (is_keep old.settings.realloc) (object_under old from) refl is
   where
     by_fit : (other : Object) → object_under old from ≡ Some other → (fits : Bool)
-        → can_take old.settings.align requested size other.span ≡ fits → (if fits then Some other else None) ≡ Some object
-        → IsKeptObject old from requested size object
+        → can_take old.settings.align 1 size other.span ≡ fits → (if fits then Some other else None) ≡ Some object
+        → IsKeptObject old from size object
     by_fit other found false fits kept = absurd (never kept)
       where
         never : None ≡ Some object → ⊥
@@ -387,14 +384,14 @@ kept_is old from requested size object is = by_policy (is_keep old.settings.real
         let same : other ≡ object = (let e = kept in cc) in
         record {
           found = found ∙ ap (λ (o : Object). Some o) same;
-          fits = ap (λ (o : Object). can_take old.settings.align requested size o.span) (sym same) ∙ fits;
+          fits = ap (λ (o : Object). can_take old.settings.align 1 size o.span) (sym same) ∙ fits;
         }
 
     by_policy : (keeps : Bool) (found : Option Object) → object_under old from ≡ found
         → (if keeps
-        then option_and_then (λ object. if can_take old.settings.align requested size object.span then Some object else None) found
+        then option_and_then (λ object. if can_take old.settings.align 1 size object.span then Some object else None) found
         else None) ≡ Some object
-        → IsKeptObject old from requested size object
+        → IsKeptObject old from size object
     by_policy false found is_found kept = absurd (never kept)
       where
         never : None ≡ Some object → ⊥
@@ -404,22 +401,22 @@ kept_is old from requested size object is = by_policy (is_keep old.settings.real
         never : None ≡ Some object → ⊥
         never e = cc
     by_policy true (Some other) is_found kept =
-        by_fit other is_found (can_take old.settings.align requested size other.span) refl kept
+        by_fit other is_found (can_take old.settings.align 1 size other.span) refl kept
 
-reallocates : (old : Heap) (from to requested size : ℕ) → AreOnceIn old.memory.live → Leads (Reallocates old from to requested size)
-reallocates old from to requested size once = by_kept (kept_object old from requested size) refl
+reallocates : (old : Heap) (from to size : ℕ) → AreOnceIn old.memory.live → Leads (Reallocates old from to size)
+reallocates old from to size once = by_kept (kept_object old from size) refl
   where
     rule : Option Object → Outcome → Heap → Type 0
     rule found outcome new =
-        MatchOption found (Remakes old from to requested size outcome new) (λ object. KeepsPlace old from to object requested size outcome new)
+        MatchOption found (Remakes old from to size outcome new) (λ object. KeepsPlace old from to object size outcome new)
 
-    by_kept : (found : Option Object) → kept_object old from requested size ≡ found → Leads (Reallocates old from to requested size)
+    by_kept : (found : Option Object) → kept_object old from size ≡ found → Leads (Reallocates old from to size)
     by_kept None is =
-        let made = remakes old from to requested size once in
+        let made = remakes old from to size once in
         record { result = made.result; new = made.new; is = subst (λ (f : Option Object). rule f made.result made.new) (sym is) made.is }
     by_kept (Some object) is =
-        let has = kept_is old from requested size object is in
-        let made = keeps_place old from to object requested size once has.found has.fits in
+        let has = kept_is old from size object is in
+        let made = keeps_place old from to object size once has.found has.fits in
         record { result = made.result; new = made.new; is = subst (λ (f : Option Object). rule f made.result made.new) (sym is) made.is }
 
 -- ---- an event
@@ -428,7 +425,7 @@ pub event_leads : (old : Heap) (event : Event) → AreOnceIn old.memory.live →
 event_leads old (Allocate id size align) once = let made = allocates old id align (size_of size) in record { result = made.result; new = made.new; is = made.is }
 event_leads old (Clear id size) once = let made = allocates old id 1 (size_of size) in record { result = made.result; new = made.new; is = made.is }
 event_leads old (Reallocate from to size) once =
-    let made = reallocates old from to 1 (size_of size) once in record { result = made.result; new = made.new; is = made.is }
+    let made = reallocates old from to (size_of size) once in record { result = made.result; new = made.new; is = made.is }
 event_leads old (Free id) once =
     let freed = frees_if_live old id in
     record {

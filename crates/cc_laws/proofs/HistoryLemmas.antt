@@ -97,23 +97,21 @@ allocates old new id requested size outcome is =
     follow old is.cleared new (frees_if_live old is.cleared id is.was_live is.clears)
     (tries is.cleared new id requested size is.making is.tries)
 
-replaces : (old new : Heap) (id requested size : ℕ) → Replaces old id requested size new → HasHistory old new
-replaces old new id requested size is =
-    follow old is.made new (makes old is.made id requested size is.makes)
+replaces : (old new : Heap) (id size : ℕ) → Replaces old id size new → HasHistory old new
+replaces old new id size is =
+    follow old is.made new (makes old is.made id 1 size is.makes)
     (frees_object is.made new id is.before is.frees)
 
-attempts_to_replace : (old new : Heap) (id requested size : ℕ) (making : Making)
-    → AttemptsToReplace old id requested size making new → HasHistory old new
-attempts_to_replace old new id requested size Made is = replaces old new id requested size is
-attempts_to_replace old new id requested size NoRoom (few, none, is) = same old new is
-attempts_to_replace old new id requested size Full (many, is) = same old new is
+attempts_to_replace : (old new : Heap) (id size : ℕ) (making : Making) → AttemptsToReplace old id size making new → HasHistory old new
+attempts_to_replace old new id size Made is = replaces old new id size is
+attempts_to_replace old new id size NoRoom (few, none, is) = same old new is
+attempts_to_replace old new id size Full (many, is) = same old new is
 
-tries_to_replace : (old new : Heap) (id requested size : ℕ) (making : Making)
-    → TriesToReplace old id requested size making new → HasHistory old new
-tries_to_replace old new id requested size making (inl (is, replaced)) = replaces old new id requested size replaced
-tries_to_replace old new id requested size making (inr (none, again)) =
+tries_to_replace : (old new : Heap) (id size : ℕ) (making : Making) → TriesToReplace old id size making new → HasHistory old new
+tries_to_replace old new id size making (inl (is, replaced)) = replaces old new id size replaced
+tries_to_replace old new id size making (inr (none, again)) =
     follow old (swept_heap old) new (sweeps old (swept_heap old) refl)
-    (attempts_to_replace (swept_heap old) new id requested size making again)
+    (attempts_to_replace (swept_heap old) new id size making again)
 
 follows_replacing : (old new : Heap) (id : ℕ) (making : Making) → FollowsReplacing old id making new
     → HasHistory old new
@@ -121,20 +119,16 @@ follows_replacing old new id Made is = follows old new is
 follows_replacing old new id NoRoom is = frees old new id is
 follows_replacing old new id Full is = frees old new id is
 
-replaces_live : (old new : Heap) (id requested size : ℕ) (outcome : Outcome)
-    → ReplacesLive old id requested size outcome new → HasHistory old new
-replaces_live old new id requested size outcome is =
-    follow old is.tried new (tries_to_replace old is.tried id requested size is.making is.tries)
+replaces_live : (old new : Heap) (id size : ℕ) (outcome : Outcome) → ReplacesLive old id size outcome new → HasHistory old new
+replaces_live old new id size outcome is =
+    follow old is.tried new (tries_to_replace old is.tried id size is.making is.tries)
     (follows_replacing is.tried new id is.making is.follows)
 
-remakes : (old new : Heap) (from to requested size : ℕ) (outcome : Outcome)
-    → Remakes old from to requested size outcome new → HasHistory old new
-remakes old new from to requested size outcome (inl (none, is)) =
-    allocates old new to requested size is.told is.allocates
-remakes old new from to requested size outcome (inr (live, inl (one, is))) =
-    replaces_live old new to requested size outcome is
-remakes old new from to requested size outcome (inr (live, inr (two, is))) =
-    follow old is.made new (allocates old is.made to requested size outcome is.allocates)
+remakes : (old new : Heap) (from to size : ℕ) (outcome : Outcome) → Remakes old from to size outcome new → HasHistory old new
+remakes old new from to size outcome (inl (none, is)) = allocates old new to 1 size is.told is.allocates
+remakes old new from to size outcome (inr (live, inl (one, is))) = replaces_live old new to size outcome is
+remakes old new from to size outcome (inr (live, inr (two, is))) =
+    follow old is.made new (allocates old is.made to 1 size outcome is.allocates)
     (frees is.made new from is.frees)
 
 keeps_object : (old new : Heap) (from to : ℕ) (before : Object) (requested size : ℕ)
@@ -152,20 +146,19 @@ clears_other : (old new : Heap) (from to : ℕ) (was_live : Bool) → ClearsOthe
 clears_other old new from to was_live (inl (one, none, is)) = same old new is
 clears_other old new from to was_live (inr (two, freed)) = frees_if_live old new to was_live freed
 
-keeps_place : (old new : Heap) (from to : ℕ) (object : Object) (requested size : ℕ) (outcome : Outcome)
-    → KeepsPlace old from to object requested size outcome new → HasHistory old new
-keeps_place old new from to object requested size outcome is =
+keeps_place : (old new : Heap) (from to : ℕ) (object : Object) (size : ℕ) (outcome : Outcome)
+    → KeepsPlace old from to object size outcome new → HasHistory old new
+keeps_place old new from to object size outcome is =
     follow old is.cleared new (clears_other old is.cleared from to is.was_live is.clears)
-    (keeps_object is.cleared new from to object requested size is.keeps)
+    (keeps_object is.cleared new from to object 1 size is.keeps)
 
-reallocates : (old new : Heap) (from to requested size : ℕ) (outcome : Outcome)
-    → Reallocates old from to requested size outcome new → HasHistory old new
-reallocates old new from to requested size outcome is = by (kept_object old from requested size) is
+reallocates : (old new : Heap) (from to size : ℕ) (outcome : Outcome) → Reallocates old from to size outcome new → HasHistory old new
+reallocates old new from to size outcome is = by (kept_object old from size) is
   where
-    by : (kept : Option Object) → MatchOption kept (Remakes old from to requested size outcome new)
-        (λ object. KeepsPlace old from to object requested size outcome new) → HasHistory old new
-    by None is = remakes old new from to requested size outcome is
-    by (Some object) is = keeps_place old new from to object requested size outcome is
+    by : (kept : Option Object) → MatchOption kept (Remakes old from to size outcome new)
+        (λ object. KeepsPlace old from to object size outcome new) → HasHistory old new
+    by None is = remakes old new from to size outcome is
+    by (Some object) is = keeps_place old new from to object size outcome is
 
 asked : (old new : Heap) (of_trace : Bool) → new ≡ (if of_trace then swept_heap old else old) → HasHistory old new
 asked old new true is = sweeps old new is
@@ -174,7 +167,7 @@ asked old new false is = same old new is
 pub event : (old new : Heap) (event : Event) (outcome : Outcome) → IsEvent old event outcome new → HasHistory old new
 event old new (Allocate id size align) outcome is = allocates old new id align (max size 1) outcome is
 event old new (Clear id size) outcome is = allocates old new id 1 (max size 1) outcome is
-event old new (Reallocate from to size) outcome is = reallocates old new from to 1 (max size 1) outcome is
+event old new (Reallocate from to size) outcome is = reallocates old new from to (max size 1) outcome is
 event old new (Free id) outcome is = frees_if_live old new id is.is_live is.frees
 event old new Sweep outcome (is, told) = asked old new (is_of_the_trace old.settings.policy) is
 event old new (Clock time) outcome (is, told) = same old new is

@@ -217,43 +217,42 @@ allocates old new id requested size told is =
     (later old is.cleared new (made_by is.making size) (frees_if_live old is.cleared id is.was_live is.clears)
     (tries is.cleared new id requested size is.making is.tries))
 
-replaces : (old new : Heap) (id requested size : ℕ) → Replaces old id requested size new → HasMade (Some size) old new
-replaces old new id requested size is =
-    before old is.made new (Some size) (makes old is.made id requested size is.makes) (frees_object is.made new id is.before is.frees)
+replaces : (old new : Heap) (id size : ℕ) → Replaces old id size new → HasMade (Some size) old new
+replaces old new id size is =
+    before old is.made new (Some size) (makes old is.made id 1 size is.makes) (frees_object is.made new id is.before is.frees)
 
-attempts_to_replace : (old new : Heap) (id requested size : ℕ) (making : Making)
-    → AttemptsToReplace old id requested size making new → HasMade (made_by making size) old new
-attempts_to_replace old new id requested size Made is = replaces old new id requested size is
-attempts_to_replace old new id requested size NoRoom (few, none, is) = same old new is
-attempts_to_replace old new id requested size Full (many, is) = same old new is
+attempts_to_replace : (old new : Heap) (id size : ℕ) (making : Making)
+    → AttemptsToReplace old id size making new → HasMade (made_by making size) old new
+attempts_to_replace old new id size Made is = replaces old new id size is
+attempts_to_replace old new id size NoRoom (few, none, is) = same old new is
+attempts_to_replace old new id size Full (many, is) = same old new is
 
-tries_to_replace : (old new : Heap) (id requested size : ℕ) (making : Making)
-    → TriesToReplace old id requested size making new → HasMade (made_by making size) old new
-tries_to_replace old new id requested size making (inl (is, replaced)) =
-    subst (λ (m : Making). HasMade (made_by m size) old new) (sym is) (replaces old new id requested size replaced)
-tries_to_replace old new id requested size making (inr (none, again)) =
+tries_to_replace : (old new : Heap) (id size : ℕ) (making : Making)
+    → TriesToReplace old id size making new → HasMade (made_by making size) old new
+tries_to_replace old new id size making (inl (is, replaced)) =
+    subst (λ (m : Making). HasMade (made_by m size) old new) (sym is) (replaces old new id size replaced)
+tries_to_replace old new id size making (inr (none, again)) =
     later old (swept_heap old) new (made_by making size) (sweeps old (swept_heap old) refl)
-    (attempts_to_replace (swept_heap old) new id requested size making again)
+    (attempts_to_replace (swept_heap old) new id size making again)
 
 follows_replacing : (old new : Heap) (id : ℕ) (making : Making) → FollowsReplacing old id making new → HasMade None old new
 follows_replacing old new id Made is = follows old new is
 follows_replacing old new id NoRoom is = frees old new id is
 follows_replacing old new id Full is = frees old new id is
 
-replaces_live : (old new : Heap) (id requested size : ℕ) (told : Outcome)
-    → ReplacesLive old id requested size told new → HasMade (told_size told size) old new
-replaces_live old new id requested size told is =
+replaces_live : (old new : Heap) (id size : ℕ) (told : Outcome)
+    → ReplacesLive old id size told new → HasMade (told_size told size) old new
+replaces_live old new id size told is =
     subst (λ (o : Outcome). HasMade (told_size o size) old new) (sym is.is_told)
-    (before old is.tried new (made_by is.making size) (tries_to_replace old is.tried id requested size is.making is.tries)
+    (before old is.tried new (made_by is.making size) (tries_to_replace old is.tried id size is.making is.tries)
     (follows_replacing is.tried new id is.making is.follows))
 
-remakes : (old new : Heap) (from to requested size : ℕ) (told : Outcome)
-    → Remakes old from to requested size told new → HasMade (told_size told size) old new
-remakes old new from to requested size told (inl (none, is)) =
-    subst (λ (o : Outcome). HasMade (told_size o size) old new) (sym is.is_told) (allocates old new to requested size is.told is.allocates)
-remakes old new from to requested size told (inr (live, inl (one, is))) = replaces_live old new to requested size told is
-remakes old new from to requested size told (inr (live, inr (two, is))) =
-    before old is.made new (told_size told size) (allocates old is.made to requested size told is.allocates) (frees is.made new from is.frees)
+remakes : (old new : Heap) (from to size : ℕ) (told : Outcome) → Remakes old from to size told new → HasMade (told_size told size) old new
+remakes old new from to size told (inl (none, is)) =
+    subst (λ (o : Outcome). HasMade (told_size o size) old new) (sym is.is_told) (allocates old new to 1 size is.told is.allocates)
+remakes old new from to size told (inr (live, inl (one, is))) = replaces_live old new to size told is
+remakes old new from to size told (inr (live, inr (two, is))) =
+    before old is.made new (told_size told size) (allocates old is.made to 1 size told is.allocates) (frees is.made new from is.frees)
 
 keeps_object : (old new : Heap) (from to : ℕ) (object : Object) (requested size : ℕ)
     → KeepsHeapObject old from to object requested size new → HasMade None old new
@@ -274,21 +273,21 @@ clears_other : (old new : Heap) (from to : ℕ) (was_live : Bool) → ClearsOthe
 clears_other old new from to was_live (inl (one, none, is)) = same old new is
 clears_other old new from to was_live (inr (two, freed)) = frees_if_live old new to was_live freed
 
-keeps_place : (old new : Heap) (from to : ℕ) (object : Object) (requested size : ℕ) (told : Outcome)
-    → KeepsPlace old from to object requested size told new → HasMade (told_size told size) old new
-keeps_place old new from to object requested size told is =
+keeps_place : (old new : Heap) (from to : ℕ) (object : Object) (size : ℕ) (told : Outcome)
+    → KeepsPlace old from to object size told new → HasMade (told_size told size) old new
+keeps_place old new from to object size told is =
     subst (λ (o : Outcome). HasMade (told_size o size) old new) (sym is.is_told)
     (later old is.cleared new None (clears_other old is.cleared from to is.was_live is.clears)
-    (keeps_object is.cleared new from to object requested size is.keeps))
+    (keeps_object is.cleared new from to object 1 size is.keeps))
 
-reallocates : (old new : Heap) (from to requested size : ℕ) (told : Outcome)
-    → Reallocates old from to requested size told new → HasMade (told_size told size) old new
-reallocates old new from to requested size told is = by (kept_object old from requested size) is
+reallocates : (old new : Heap) (from to size : ℕ) (told : Outcome)
+    → Reallocates old from to size told new → HasMade (told_size told size) old new
+reallocates old new from to size told is = by (kept_object old from size) is
   where
-    by : (kept : Option Object) → MatchOption kept (Remakes old from to requested size told new)
-        (λ object. KeepsPlace old from to object requested size told new) → HasMade (told_size told size) old new
-    by None is = remakes old new from to requested size told is
-    by (Some object) is = keeps_place old new from to object requested size told is
+    by : (kept : Option Object) → MatchOption kept (Remakes old from to size told new)
+        (λ object. KeepsPlace old from to object size told new) → HasMade (told_size told size) old new
+    by None is = remakes old new from to size told is
+    by (Some object) is = keeps_place old new from to object size told is
 
 asked : (old new : Heap) (of_trace : Bool) → new ≡ (if of_trace then swept_heap old else old) → HasMade None old new
 asked old new true is = sweeps old new is
@@ -326,7 +325,7 @@ event_made old new (Clear id size) told is =
     (allocates old new id 1 (max size 1) told is)
 event_made old new (Reallocate from to size) told is =
     subst (λ (m : Option ℕ). HasMade m old new) (told_made (Reallocate from to size) told (max size 1) (made_reallocated from to size) refl)
-    (reallocates old new from to 1 (max size 1) told is)
+    (reallocates old new from to (max size 1) told is)
 event_made old new (Free id) told is =
     subst (λ (o : Outcome). HasMade (made_size (Free id) o.making) old new) (sym is.is_told) (frees_if_live old new id is.is_live is.frees)
 event_made old new Sweep told (is, told_is) =

@@ -178,10 +178,10 @@ allocates t old new id requested size outcome alike is =
       alike = twin.alike;
     }
 
-replaces : (t : Totals) (old new : Heap) (id requested size : ℕ) → Alike t old.totals → Replaces old id requested size new
-    → Twin (λ (h : Heap). Replaces (re t old) id requested size h) new
-replaces t old new id requested size alike is =
-    let first = makes t old is.made id requested size alike is.makes in
+replaces : (t : Totals) (old new : Heap) (id size : ℕ) → Alike t old.totals → Replaces old id size new
+    → Twin (λ (h : Heap). Replaces (re t old) id size h) new
+replaces t old new id size alike is =
+    let first = makes t old is.made id 1 size alike is.makes in
     let twin = frees_object first.totals is.made new id is.before first.alike is.frees in
     record {
       totals = twin.totals;
@@ -195,23 +195,23 @@ replaces t old new id requested size alike is =
       alike = twin.alike;
     }
 
-attempts_to_replace : (t : Totals) (old new : Heap) (id requested size : ℕ) (making : Making) → Alike t old.totals
-    → AttemptsToReplace old id requested size making new → Twin (λ (h : Heap). AttemptsToReplace (re t old) id requested size making h) new
-attempts_to_replace t old new id requested size Made alike is =
-    let twin = replaces t old new id requested size alike is in record { totals = twin.totals; holds = twin.holds; alike = twin.alike }
-attempts_to_replace t old new id requested size NoRoom alike is =
-    let twin = attempts t old new id requested size NoRoom alike is in record { totals = twin.totals; holds = twin.holds; alike = twin.alike }
-attempts_to_replace t old new id requested size Full alike is =
-    let twin = attempts t old new id requested size Full alike is in record { totals = twin.totals; holds = twin.holds; alike = twin.alike }
+attempts_to_replace : (t : Totals) (old new : Heap) (id size : ℕ) (making : Making) → Alike t old.totals
+    → AttemptsToReplace old id size making new → Twin (λ (h : Heap). AttemptsToReplace (re t old) id size making h) new
+attempts_to_replace t old new id size Made alike is =
+    let twin = replaces t old new id size alike is in record { totals = twin.totals; holds = twin.holds; alike = twin.alike }
+attempts_to_replace t old new id size NoRoom alike is =
+    let twin = attempts t old new id 1 size NoRoom alike is in record { totals = twin.totals; holds = twin.holds; alike = twin.alike }
+attempts_to_replace t old new id size Full alike is =
+    let twin = attempts t old new id 1 size Full alike is in record { totals = twin.totals; holds = twin.holds; alike = twin.alike }
 
-tries_to_replace : (t : Totals) (old new : Heap) (id requested size : ℕ) (making : Making) → Alike t old.totals
-    → TriesToReplace old id requested size making new → Twin (λ (h : Heap). TriesToReplace (re t old) id requested size making h) new
+tries_to_replace : (t : Totals) (old new : Heap) (id size : ℕ) (making : Making) → Alike t old.totals
+    → TriesToReplace old id size making new → Twin (λ (h : Heap). TriesToReplace (re t old) id size making h) new
 unfolding sweeps
-tries_to_replace t old new id requested size making alike (inl (is, replaced)) =
-    let twin = replaces t old new id requested size alike replaced in record { totals = twin.totals; holds = inl (is, twin.holds); alike = twin.alike }
-tries_to_replace t old new id requested size making alike (inr (none, again)) =
+tries_to_replace t old new id size making alike (inl (is, replaced)) =
+    let twin = replaces t old new id size alike replaced in record { totals = twin.totals; holds = inl (is, twin.holds); alike = twin.alike }
+tries_to_replace t old new id size making alike (inr (none, again)) =
     let first = sweeps t old (swept_heap old) alike refl in
-    let twin = attempts_to_replace first.totals (swept_heap old) new id requested size making first.alike again in
+    let twin = attempts_to_replace first.totals (swept_heap old) new id size making first.alike again in
     record { totals = twin.totals; holds = inr (none, twin.holds); alike = twin.alike }
 
 follows_replacing : (t : Totals) (old new : Heap) (id : ℕ) (making : Making) → Alike t old.totals → FollowsReplacing old id making new
@@ -223,10 +223,10 @@ follows_replacing t old new id NoRoom alike is =
 follows_replacing t old new id Full alike is =
     let twin = frees t old new id alike is in record { totals = twin.totals; holds = twin.holds; alike = twin.alike }
 
-replaces_live : (t : Totals) (old new : Heap) (id requested size : ℕ) (outcome : Outcome) → Alike t old.totals
-    → ReplacesLive old id requested size outcome new → Twin (λ (h : Heap). ReplacesLive (re t old) id requested size outcome h) new
-replaces_live t old new id requested size outcome alike is =
-    let first = tries_to_replace t old is.tried id requested size is.making alike is.tries in
+replaces_live : (t : Totals) (old new : Heap) (id size : ℕ) (outcome : Outcome) → Alike t old.totals
+    → ReplacesLive old id size outcome new → Twin (λ (h : Heap). ReplacesLive (re t old) id size outcome h) new
+replaces_live t old new id size outcome alike is =
+    let first = tries_to_replace t old is.tried id size is.making alike is.tries in
     let twin = follows_replacing first.totals is.tried new id is.making first.alike is.follows in
     record {
       totals = twin.totals;
@@ -240,20 +240,20 @@ replaces_live t old new id requested size outcome alike is =
       alike = twin.alike;
     }
 
-remakes : (t : Totals) (old new : Heap) (from to requested size : ℕ) (outcome : Outcome) → Alike t old.totals
-    → Remakes old from to requested size outcome new → Twin (λ (h : Heap). Remakes (re t old) from to requested size outcome h) new
-remakes t old new from to requested size outcome alike (inl (none, is)) =
-    let twin = allocates t old new to requested size is.told alike is.allocates in
+remakes : (t : Totals) (old new : Heap) (from to size : ℕ) (outcome : Outcome) → Alike t old.totals
+    → Remakes old from to size outcome new → Twin (λ (h : Heap). Remakes (re t old) from to size outcome h) new
+remakes t old new from to size outcome alike (inl (none, is)) =
+    let twin = allocates t old new to 1 size is.told alike is.allocates in
     record {
       totals = twin.totals;
       holds = inl (none, record { told = is.told; allocates = twin.holds; is_told = is.is_told });
       alike = twin.alike;
     }
-remakes t old new from to requested size outcome alike (inr (live, inl (one, is))) =
-    let twin = replaces_live t old new to requested size outcome alike is in
+remakes t old new from to size outcome alike (inr (live, inl (one, is))) =
+    let twin = replaces_live t old new to size outcome alike is in
     record { totals = twin.totals; holds = inr (live, inl (one, twin.holds)); alike = twin.alike }
-remakes t old new from to requested size outcome alike (inr (live, inr (two, is))) =
-    let first = allocates t old is.made to requested size outcome alike is.allocates in
+remakes t old new from to size outcome alike (inr (live, inr (two, is))) =
+    let first = allocates t old is.made to 1 size outcome alike is.allocates in
     let twin = frees first.totals is.made new from first.alike is.frees in
     record {
       totals = twin.totals;
@@ -268,11 +268,11 @@ clears_other t old new from to was_live alike (inl (one, none, is)) =
 clears_other t old new from to was_live alike (inr (two, freed)) =
     let twin = frees_if_live t old new to was_live alike freed in record { totals = twin.totals; holds = inr (two, twin.holds); alike = twin.alike }
 
-keeps_place : (t : Totals) (old new : Heap) (from to : ℕ) (object : Object) (requested size : ℕ) (outcome : Outcome) → Alike t old.totals
-    → KeepsPlace old from to object requested size outcome new → Twin (λ (h : Heap). KeepsPlace (re t old) from to object requested size outcome h) new
-keeps_place t old new from to object requested size outcome alike is =
+keeps_place : (t : Totals) (old new : Heap) (from to : ℕ) (object : Object) (size : ℕ) (outcome : Outcome) → Alike t old.totals
+    → KeepsPlace old from to object size outcome new → Twin (λ (h : Heap). KeepsPlace (re t old) from to object size outcome h) new
+keeps_place t old new from to object size outcome alike is =
     let first = clears_other t old is.cleared from to is.was_live alike is.clears in
-    let twin = keeps_object first.totals is.cleared new from to object requested size first.alike is.keeps in
+    let twin = keeps_object first.totals is.cleared new from to object 1 size first.alike is.keeps in
     record {
       totals = twin.totals;
       holds = record {
@@ -285,18 +285,18 @@ keeps_place t old new from to object requested size outcome alike is =
       alike = twin.alike;
     }
 
-reallocates : (t : Totals) (old new : Heap) (from to requested size : ℕ) (outcome : Outcome) → Alike t old.totals
-    → Reallocates old from to requested size outcome new → Twin (λ (h : Heap). Reallocates (re t old) from to requested size outcome h) new
-reallocates t old new from to requested size outcome alike is = by (kept_object old from requested size) is
+reallocates : (t : Totals) (old new : Heap) (from to size : ℕ) (outcome : Outcome) → Alike t old.totals
+    → Reallocates old from to size outcome new → Twin (λ (h : Heap). Reallocates (re t old) from to size outcome h) new
+reallocates t old new from to size outcome alike is = by (kept_object old from size) is
   where
-    by : (kept : Option Object) → MatchOption kept (Remakes old from to requested size outcome new)
-        (λ object. KeepsPlace old from to object requested size outcome new)
-        → Twin (λ (h : Heap). MatchOption kept (Remakes (re t old) from to requested size outcome h)
-        (λ object. KeepsPlace (re t old) from to object requested size outcome h)) new
+    by : (kept : Option Object) → MatchOption kept (Remakes old from to size outcome new)
+        (λ object. KeepsPlace old from to object size outcome new)
+        → Twin (λ (h : Heap). MatchOption kept (Remakes (re t old) from to size outcome h)
+        (λ object. KeepsPlace (re t old) from to object size outcome h)) new
     by None is =
-        let twin = remakes t old new from to requested size outcome alike is in record { totals = twin.totals; holds = twin.holds; alike = twin.alike }
+        let twin = remakes t old new from to size outcome alike is in record { totals = twin.totals; holds = twin.holds; alike = twin.alike }
     by (Some object) is =
-        let twin = keeps_place t old new from to object requested size outcome alike is in
+        let twin = keeps_place t old new from to object size outcome alike is in
         record { totals = twin.totals; holds = twin.holds; alike = twin.alike }
 
 asked : (t : Totals) (old new : Heap) (of_trace : Bool) → Alike t old.totals → new ≡ (if of_trace then swept_heap old else old)
@@ -308,7 +308,7 @@ event_ignores : (t : Totals) (old new : Heap) (event : Event) (outcome : Outcome
     → Twin (λ (h : Heap). IsEvent (re t old) event outcome h) new
 event_ignores t old new (Allocate id size align) outcome alike is = allocates t old new id align (max size 1) outcome alike is
 event_ignores t old new (Clear id size) outcome alike is = allocates t old new id 1 (max size 1) outcome alike is
-event_ignores t old new (Reallocate from to size) outcome alike is = reallocates t old new from to 1 (max size 1) outcome alike is
+event_ignores t old new (Reallocate from to size) outcome alike is = reallocates t old new from to (max size 1) outcome alike is
 event_ignores t old new (Free id) outcome alike is =
     let twin = frees_if_live t old new id is.is_live alike is.frees in
     record {

@@ -271,14 +271,12 @@ sweeps_once old new kept is = record {
       omega (arith, more, few);
 }
 
-replaces : (old new : Heap) (id requested size : ℕ) → IsKept old → 0 < size
-    → requested ≤ unit_of old.settings.align size
-    → Replaces old id requested size new
+replaces : (old new : Heap) (id size : ℕ) → IsKept old → 0 < size → Replaces old id size new
     → HasHistory old new (λ n. Alloc size ∷ freeing old.settings.policy (n.number_of id)) (λ n. with_number n id) 0
-replaces old new id requested size kept some aligned is =
+replaces old new id size kept some is =
     let made = is.makes in
     let freed = is.frees in
-    let object : Object = memory_object old.settings.align requested made.start size in
+    let object : Object = memory_object old.settings.align 1 made.start size in
     let live : new.memory.live ≡ freed.live = ap (λ (h : Heap). h.memory.live) freed.is_new in
     let made_live : is.made.memory.live ≡ made.live = ap (λ (h : Heap). h.memory.live) made.is_new in
     let made_settings : is.made.settings ≡ old.settings = ap (λ (h : Heap). h.settings) made.is_new in
@@ -291,7 +289,7 @@ replaces old new id requested size kept some aligned is =
     record {
       changes = ReplaceOne id is.before object ∷ [];
       are = (new, record { is_live = is.is_live; made = is.made; makes = record { makes = made; is = refl }; frees = freed }, refl);
-      can = (record { some = some; aligned = aligned }, tt);
+      can = (record { some = some; aligned = unit-some old.settings.align size }, tt);
       kept = record {
         once = λ other. subst (λ (l : List (ℕ × Object)). sum_by (id_weight other) l ≤ 1) (sym live)
             (let more = one_more old.memory.live made.live (id, object) made.adds (id_weight other) in
@@ -644,11 +642,11 @@ placed : (cleared sweeps alloc last : List Op) → (cleared ++ (sweeps ++ alloc)
 placed cleared sweeps alloc last =
     append_assoc cleared (sweeps ++ alloc) last ∙ ap (λ (l : List Op). cleared ++ l) (append_assoc sweeps alloc last)
 
-pub moves : (old made new : Heap) (from to requested size : ℕ) (outcome : Outcome) → IsKept old → 0 < size
-    → requested ≤ unit_of old.settings.align size → (from ≡ to → ⊥) → (is : AllocatesInHeap old to requested size outcome made)
-    → FreesInHeap made from new → HasMoved old (if_live is.was_live to) (made_entry is.making to size) from new
-moves old made new from to requested size outcome kept some aligned differ is freed =
-    let first = allocates old made to requested size outcome kept some aligned is in
+pub moves : (old made new : Heap) (from to size : ℕ) (outcome : Outcome) → IsKept old → 0 < size → (from ≡ to → ⊥)
+    → (is : AllocatesInHeap old to 1 size outcome made) → FreesInHeap made from new
+    → HasMoved old (if_live is.was_live to) (made_entry is.making to size) from new
+moves old made new from to size outcome kept some differ is freed =
+    let first = allocates old made to 1 size outcome kept some (unit-some old.settings.align size) is in
     let second = frees_last made new from first.history.kept freed in
     let policy_is : made.settings.policy ≡ old.settings.policy = ap (λ (s : Settings). s.policy) first.history.settings in
     record {
@@ -680,13 +678,13 @@ moves old made new from to requested size outcome kept some aligned differ is fr
     }
 
 -- an object is replaced, with a sweep before or not
-replaced_once : (old tried new : Heap) (id requested size count : ℕ) → count ≤ 1 → IsKept old → 0 < size
-    → requested ≤ unit_of tried.settings.align size → HasHistory old tried (λ n. replicate count SweepOp) stay count
-    → (between : Heap) → Replaces tried id requested size between → FollowsPolicy between new
+replaced_once : (old tried new : Heap) (id size count : ℕ) → count ≤ 1 → IsKept old → 0 < size
+    → HasHistory old tried (λ n. replicate count SweepOp) stay count
+    → (between : Heap) → Replaces tried id size between → FollowsPolicy between new
     → HasMoved old None (made_entry Made id size) id new
-replaced_once old tried new id requested size count few kept some aligned first between is follows_is =
-    let second = replaces tried between id requested size first.kept some aligned is in
-    let before_bytes : 0 < length_of is.before.span = replaced_bytes tried between id requested size first.kept some is in
+replaced_once old tried new id size count few kept some first between is follows_is =
+    let second = replaces tried between id size first.kept some is in
+    let before_bytes : 0 < length_of is.before.span = replaced_bytes tried between id size first.kept some is in
     let made_policy : is.made.settings.policy ≡ tried.settings.policy = ap (λ (h : Heap). h.settings.policy) is.makes.is_new in
     let freed_policy : between.settings.policy ≡ is.made.settings.policy = ap (λ (h : Heap). h.settings.policy) is.frees.is_new in
     let quarantine_is : between.memory.quarantined
@@ -712,9 +710,9 @@ replaced_once old tried new id requested size count few kept some aligned first 
           (λ n. refl) (omega arith);
     }
   where
-    replaced_bytes : (old new : Heap) (id requested size : ℕ) → IsKept old → 0 < size → (is : Replaces old id requested size new)
+    replaced_bytes : (old new : Heap) (id size : ℕ) → IsKept old → 0 < size → (is : Replaces old id size new)
         → 0 < length_of is.before.span
-    replaced_bytes old new id requested size kept some is = found_bytes old.memory.live kept.some is.is_live
+    replaced_bytes old new id size kept some is = found_bytes old.memory.live kept.some is.is_live
       where
         found_bytes : (entries : List (ℕ × Object)) → All HasBytes entries → lookup (nat_eq id) entries ≡ Some is.before
             → 0 < length_of is.before.span
@@ -736,10 +734,9 @@ replaced_once old tried new id requested size count few kept some aligned first 
             by_test false found_later bytes later = later found_later
 
 -- the object under a live id is replaced, or it is freed
-pub replaces_live : (old new : Heap) (id requested size : ℕ) (outcome : Outcome) → IsKept old → 0 < size
-    → requested ≤ unit_of old.settings.align size → (is : ReplacesLive old id requested size outcome new)
-    → HasMoved old None (made_entry is.making id size) id new
-replaces_live old new id requested size outcome kept some aligned is = by is.making is.tries is.follows
+pub replaces_live : (old new : Heap) (id size : ℕ) (outcome : Outcome) → IsKept old → 0 < size
+    → (is : ReplacesLive old id size outcome new) → HasMoved old None (made_entry is.making id size) id new
+replaces_live old new id size outcome kept some is = by is.making is.tries is.follows
   where
     freed_after : (tried : Heap) → HasHistory old tried (λ n. replicate 1 SweepOp) stay 1 → FreesInHeap tried id new
         → HasMoved old None None id new
@@ -762,13 +759,13 @@ replaces_live old new id requested size outcome kept some aligned is = by is.mak
     swept_same : (tried : Heap) → tried ≡ swept_heap old → HasHistory old tried (λ n. replicate 1 SweepOp) stay 1
     swept_same tried tried_is = sweeps_once old tried kept tried_is
 
-    by : (making : Making) → TriesToReplace old id requested size making is.tried → FollowsReplacing is.tried id making new
+    by : (making : Making) → TriesToReplace old id size making is.tried → FollowsReplacing is.tried id making new
         → HasMoved old None (made_entry making id size) id new
     by Made (inl (made, replaced)) follows_is =
-        replaced_once old old new id requested size 0 (omega arith) kept some aligned (same old old kept refl) is.tried replaced follows_is
+        replaced_once old old new id size 0 (omega arith) kept some (same old old kept refl) is.tried replaced follows_is
     by Made (inr (none, replaced)) follows_is =
-        replaced_once old (swept_heap old) new id requested size 1 (omega arith) kept some aligned (sweeps_once old (swept_heap old) kept refl)
-        is.tried replaced follows_is
+        replaced_once old (swept_heap old) new id size 1 (omega arith) kept some (sweeps_once old (swept_heap old) kept refl) is.tried
+        replaced follows_is
     by NoRoom (inl (never, replaced)) follows_is = absurd (not_made never)
       where
         not_made : NoRoom ≡ Made → ⊥
@@ -808,7 +805,7 @@ quiet old new event outcome count few_count history deeds_are few =
     })
 
 remakes : (old new : Heap) (from to size : ℕ) (outcome : Outcome) → IsKept old
-    → Remakes old from to 1 (max size 1) outcome new → IsDone old (Reallocate from to size) outcome new
+    → Remakes old from to (max size 1) outcome new → IsDone old (Reallocate from to size) outcome new
 remakes old new from to size outcome kept (inl (none, is)) =
     allocated old new (Reallocate from to size) to 1 (max size 1) outcome is.told true kept (some_size size)
     (unit-some old.settings.align (max size 1)) is.allocates
@@ -820,7 +817,7 @@ remakes old new from to size outcome kept (inl (none, is)) =
 remakes old new from to size outcome kept (inr (live, inl (one, is))) =
     moved_deeds old new (Reallocate from to size) outcome None (made_entry is.making to (max size 1)) from
     (subst (λ (id : ℕ). HasMoved old None (made_entry is.making to (max size 1)) id new) (sym one)
-    (replaces_live old new to 1 (max size 1) outcome kept (some_size size) (unit-some old.settings.align (max size 1)) is))
+    (replaces_live old new to (max size 1) outcome kept (some_size size) is))
     (λ clean sweeps. ap (λ (o : Outcome). deeds_of (Reallocate from to size) o sweeps clean) is.is_told)
   where
     some_size : (size : ℕ) → 0 < max size 1
@@ -828,8 +825,7 @@ remakes old new from to size outcome kept (inr (live, inl (one, is))) =
 remakes old new from to size outcome kept (inr (live, inr (two, is))) =
     moved_deeds old new (Reallocate from to size) outcome (if_live is.allocates.was_live to)
     (made_entry is.allocates.making to (max size 1)) from
-    (moves old is.made new from to 1 (max size 1) outcome kept (some_size size) (unit-some old.settings.align (max size 1)) two
-    is.allocates is.frees)
+    (moves old is.made new from to (max size 1) outcome kept (some_size size) two is.allocates is.frees)
     (λ clean sweeps. ap (λ (o : Outcome). deeds_of (Reallocate from to size) o sweeps clean) is.allocates.is_told)
   where
     some_size : (size : ℕ) → 0 < max size 1
@@ -837,13 +833,13 @@ remakes old new from to size outcome kept (inr (live, inr (two, is))) =
 
 -- no object keeps its place if reallocations move objects
 reallocates : (old new : Heap) (from to size : ℕ) (outcome : Outcome) → IsKept old
-    → Reallocates old from to 1 (max size 1) outcome new → IsDone old (Reallocate from to size) outcome new
+    → Reallocates old from to (max size 1) outcome new → IsDone old (Reallocate from to size) outcome new
 reallocates old new from to size outcome kept is =
     remakes old new from to size outcome kept
-    (subst (λ (found : Option Object). MatchOption found (Remakes old from to 1 (max size 1) outcome new)
-    (λ object. KeepsPlace old from to object 1 (max size 1) outcome new)) none is)
+    (subst (λ (found : Option Object). MatchOption found (Remakes old from to (max size 1) outcome new)
+    (λ object. KeepsPlace old from to object (max size 1) outcome new)) none is)
   where
-    none : kept_object old from 1 (max size 1) ≡ None
+    none : kept_object old from (max size 1) ≡ None
     none =
         ap (λ (r : Reallocation). if is_keep r
         then option_and_then (λ object. if can_take old.settings.align 1 (max size 1) object.span then Some object else None) (object_under old from)

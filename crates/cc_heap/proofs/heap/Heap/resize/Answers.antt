@@ -35,15 +35,15 @@ invariant_of-self-2 g c =
     let before = live_object c.self.inside.settings.align c.self.inside.objects.entries _ c.self.inside.quarantine.items
     c.self.inside.usage c.args.from c.args.before (fit _ _ c.self.invariant.sound)
     (found_first c.args.from c.args.before c.self.inside.objects.entries is_live) c.self.invariant.usage_is in
-    let takes : can_take c.self.inside.settings.align c.args.align c.args.size c.args.before.span ≡ true =
-    ap (λ (h : Heap). can_take h.settings.align c.args.align c.args.size c.args.before.span) c.self.view_is ∙ c.requires.fits in
+    let takes : can_take c.self.inside.settings.align 1 c.args.size c.args.before.span ≡ true =
+    ap (λ (h : Heap). can_take h.settings.align 1 c.args.size c.args.before.span) c.self.view_is ∙ c.requires.fits in
     let swaps = c.in_ok-put_for.ensures.swaps c.args.before is_live in
-    let parts = takes_parts c.self.inside.settings.align c.args.align c.args.size c.args.before.span takes in
+    let parts = takes_parts c.self.inside.settings.align 1 c.args.size c.args.before.span takes in
     kept_swapped c.self.inside.settings c.self.inside.totals c.with_usage-self-inside.result c.self.inside.objects.entries
     c.put_for.new.objects.entries c.self.inside.quarantine.items c.self.inside.usage c.with_size-self-inside.result _ _ _
-    (g.P.Placer.holds c.self.inside.placer) c.args.from c.args.to c.args.before (resized c.args.before c.args.align c.args.size)
+    (g.P.Placer.holds c.self.inside.placer) c.args.from c.args.to c.args.before (resized c.args.before 1 c.args.size)
     c.self.invariant swaps c.in_ok-put_for.ensures.unique
-    (exact_in c.self.inside.settings.align c.args.align c.args.size c.args.before.span before.is_span c.requires.aligned c.requires.some
+    (exact_in c.self.inside.settings.align 1 c.args.size c.args.before.span before.is_span (0, refl) c.requires.some
     (omega (arith, c.ranges.size.fits)) parts.0 parts.1) refl c.with_size-self-inside.ensures before.asked
     (ap (λ t. t.high) c.with_usage-self-inside.ensures)
 
@@ -54,13 +54,13 @@ returns-clause-keeps g c =
     let before = live_object c.self.inside.settings.align c.self.inside.objects.entries _ c.self.inside.quarantine.items
     c.self.inside.usage c.args.from c.args.before (fit _ _ c.self.invariant.sound)
     (found_first c.args.from c.args.before c.self.inside.objects.entries is_live) c.self.invariant.usage_is in
-    let takes : can_take c.self.inside.settings.align c.args.align c.args.size c.args.before.span ≡ true =
-    ap (λ (h : Heap). can_take h.settings.align c.args.align c.args.size c.args.before.span) c.self.view_is ∙ c.requires.fits in
+    let takes : can_take c.self.inside.settings.align 1 c.args.size c.args.before.span ≡ true =
+    ap (λ (h : Heap). can_take h.settings.align 1 c.args.size c.args.before.span) c.self.view_is ∙ c.requires.fits in
     let swaps = c.in_ok-put_for.ensures.swaps c.args.before is_live in
     keeps _ c.self.inside.settings c.self.inside.totals c.with_usage-self-inside.result c.self.inside.objects.entries
     c.put_for.new.objects.entries c.self.inside.quarantine.items c.with_size-self-inside.result c.args.from c.args.to c.args.before
-    c.args.align c.args.size c.self.view_is is_live takes swaps
+    1 c.args.size c.self.view_is is_live takes swaps
     (usage_swapped c.self.inside.objects.entries c.put_for.new.objects.entries c.self.inside.quarantine.items c.args.from c.args.to
-    c.args.before (resized c.args.before c.args.align c.args.size) c.self.inside.usage c.with_size-self-inside.result
+    c.args.before (resized c.args.before 1 c.args.size) c.self.inside.usage c.with_size-self-inside.result
     c.self.invariant.usage_is c.with_size-self-inside.ensures before.asked refl swaps)
     c.with_usage-self-inside.ensures
