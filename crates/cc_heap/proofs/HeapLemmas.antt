@@ -396,17 +396,16 @@ kept_replaced settings totals new_totals live more waiting new_waiting usage bet
     })
 
 -- when a live object gets another size and id
-pub kept_swapped : (settings : Settings) (totals new_totals : Totals) (live more : List (ℕ × Object)) (waiting : List Span)
+pub kept_swapped : (settings : Settings) (totals : Totals) (live more : List (ℕ × Object)) (waiting : List Span)
     (usage new_usage : Usage) (capacity placer_limit : ℕ) (placer_pool : Option Span) (holds : List Span → Type 0) (from to : ℕ)
     (before object : Object)
     → IsHeap (heap_of settings live waiting totals) usage capacity placer_limit placer_pool holds
     → IsPermutation ((to, object) ∷ live) ((from, before) ∷ more) → IsDistinct nat_eq (keys_of more)
     → IsExact settings.align object → object.span ≡ before.span
     → new_usage ≡ usage_resized usage before.size object.size → before.size ≤ usage.asked
-    → new_totals.high ≡ totals.high
-    → IsHeap (heap_of settings more waiting new_totals) new_usage capacity placer_limit placer_pool holds
-kept_swapped settings totals new_totals live more waiting usage new_usage capacity placer_limit placer_pool holds from to
-    before object kept swaps distinct exact same usage_is counted high_is =
+    → IsHeap (heap_of settings more waiting totals) new_usage capacity placer_limit placer_pool holds
+kept_swapped settings totals live more waiting usage new_usage capacity placer_limit placer_pool holds from to
+    before object kept swaps distinct exact same usage_is counted =
     let entries : List (ℕ × Object) = (to, object) ∷ live in
     let others : List (ℕ × Object) = (from, before) ∷ more in
     let all = All-permutation (IsExactEntry settings.align) entries others swaps
@@ -425,7 +424,7 @@ kept_swapped settings totals new_totals live more waiting usage new_usage capaci
       at_most = omega (arith, as_many, kept.at_most);
       few = kept.few;
       is_pool = kept.is_pool;
-      high_fits = omega (arith, high_is, kept.high_fits);
+      high_fits = kept.high_fits;
       limit_is = kept.limit_is;
       pool_is = kept.pool_is;
       held_is = λ spans rest.

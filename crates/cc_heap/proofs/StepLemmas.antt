@@ -1,10 +1,8 @@
 -- What a heap is after an object was made, after one was freed, and after an event.
-use Rattle.std.proofs.Common.{ℕ, Bool, true, false, ◌≡◌, ◌+◌, ◌-◌, ◌<◌, if◌then◌else◌, nat_eq, List, [], ◌∷◌, ◌++◌, Option, Some, Result, Ok, Err, IfOk, IsSome, map, length, arith, refl, subst}
+use Rattle.std.proofs.Common.{ℕ, Bool, true, false, ◌≡◌, ◌+◌, ◌-◌, ◌<◌, nat_eq, List, [], ◌∷◌, ◌++◌, Option, Some, Result, Ok, Err, IfOk, IsSome, map, length, arith, refl, subst}
 use Rattle.std.proofs.Common.{◌∙◌, sym, ap, inl, inr, IsPermutation}
 use Rattle.std.specs.Map.{lookup}
-use Rattle.std.specs.Option.{is_some}
 use Rattle.std.proofs.lemmas.Bool.Decides.{nat_tests}
-use Rattle.std.proofs.lemmas.List.{length_push}
 use Rattle.std.proofs.lemmas.List.Sorted.{IsPermutation-refl}
 use Rattle.cc_bounds.specs.declared.span.Span.{Span}
 use Rattle.cc_heap.specs.declared.making.Making.{Making}
@@ -13,13 +11,11 @@ use Rattle.cc_heap.specs.declared.object.Object.{Object}
 use Rattle.cc_heap.specs.declared.settings.Settings.{Settings}
 use Rattle.cc_heap.specs.declared.totals.Totals.{Totals}
 use Rattle.cc_heap.specs.declared.usage.Usage.{Usage}
-use Rattle.cc_heap.specs.Totals.{with_made, with_usage}
+use Rattle.cc_heap.specs.Totals.{with_made}
 use Rattle.cc_heap.specs.Memory.{memory_object, object_span, usage_of}
-use Rattle.cc_heap.specs.Policy.{is_immediate}
-use Rattle.cc_heap.specs.Reallocation.{can_take}
-use Rattle.cc_heap.specs.Heap.{Attempts, FreesHeapObject, Heap, KeepsHeapObject, MakesHeapObject, is_made, object_under, quarantined_with, resized, swept_heap}
+use Rattle.cc_heap.specs.Heap.{Attempts, FreesHeapObject, Heap, MakesHeapObject, is_made, object_under, swept_heap}
 use Rattle.cc_heap.specs.Events.{AttemptsToReplace, ClearsOther, FailsToReallocate, FollowsPolicy, FreesInHeap, FreesIfLive, HasNoRoomInHeap, Replaces, Tries, TriesToReplace}
-use Rattle.cc_heap.specs.HeapState.{IsQuarantined, IsReplaced, PutsOver, QuarantinesLive, ReleasesLast, Settles}
+use Rattle.cc_heap.specs.HeapState.{IsQuarantined, IsReplaced, QuarantinesLive, Settles}
 use Rattle.cc_heap.proofs.PlaceLemmas.{IsFound}
 use Rattle.cc_heap.proofs.HeapLemmas.{heap_of, held_length, memory_of}
 
@@ -91,52 +87,6 @@ replaced old settings totals new_totals live more waiting new_waiting usage id b
       quarantines = record { live = more; takes = takes; is_new = rw waiting_is refl };
     })
 
--- ---- the span that was quarantined last
-
-abbrev tail_of : List Span → List Span
-tail_of [] = []
-tail_of (x ∷ xs) = xs
-
-abbrev head_of : Span → List Span → Span
-head_of d [] = d
-head_of d (x ∷ xs) = x
-
--- lists with one span more are the same only if they were
-push_same : (xs ys : List Span) (x y : Span) → xs ++ x ∷ [] ≡ ys ++ y ∷ [] → xs ≡ ys
-push_same [] [] x y same = refl
-push_same [] (b ∷ ys) x y same =
-    absurd (omega (arith, ap (λ (l : List Span). length l) same, length_push (b ∷ ys) y))
-push_same (a ∷ xs) [] x y same =
-    absurd (omega (arith, ap (λ (l : List Span). length l) same, length_push (a ∷ xs) x))
-push_same (a ∷ xs) (b ∷ ys) x y same =
-    let heads : a ≡ b = ap (head_of a) same in
-    let tails : xs ++ x ∷ [] ≡ ys ++ y ∷ [] = ap tail_of same in
-    let rest : xs ≡ ys = push_same xs ys x y tails in
-    λ i. heads i ∷ rest i
-
--- the heap with its state counted
-abbrev pub counted_state : Heap → Heap
-counted_state heap = record heap { totals = with_usage heap.totals (usage_of heap.memory) }
-
-pub settles_released : (old released new : Heap) → ReleasesLast old released → is_immediate old.settings.policy ≡ true
-    → new ≡ counted_state released → Settles old new
-settles_released old released new releases immediate new_is spans span was =
-    let fewer : released.memory.quarantined ≡ spans =
-    push_same released.memory.quarantined spans releases.span span (sym releases.last ∙ was) in
-    let left : quarantined_with old.settings.policy spans span ≡ spans =
-    ap (λ (b : Bool). if b then spans else spans ++ span ∷ []) immediate in
-    let same : released ≡ heap_of old.settings old.memory.live (quarantined_with old.settings.policy spans span) old.totals =
-    releases.is_new ∙ ap (λ (w : List Span). heap_of old.settings old.memory.live w old.totals) (fewer ∙ sym left) in
-    new_is ∙ ap (λ (h : Heap). counted_state h) same
-
-pub settles_kept : (old new : Heap) → is_immediate old.settings.policy ≡ false → new ≡ counted_state old
-    → Settles old new
-settles_kept old new kept new_is spans span was =
-    let left : quarantined_with old.settings.policy spans span ≡ spans ++ span ∷ [] =
-    ap (λ (b : Bool). if b then spans else spans ++ span ∷ []) kept in
-    new_is
-    ∙ ap (λ (w : List Span). counted_state (heap_of old.settings old.memory.live w old.totals)) (was ∙ sym left)
-
 pub frees_object : (old between new : Heap) (id : ℕ) (object : Object) → IsQuarantined old id object between
     → Settles between new → FreesHeapObject old id object new
 frees_object old between new id object quarantined settles =
@@ -166,24 +116,6 @@ replaces old between new id size is settles = record {
   makes = is.makes;
   frees = frees_object is.made between new id is.before is.quarantines settles;
 }
-
--- an object gets another size and id
-pub keeps : (old : Heap) (settings : Settings) (totals new_totals : Totals) (live more : List (ℕ × Object)) (waiting : List Span)
-    (usage : Usage) (from to : ℕ) (before : Object) (requested size : ℕ)
-    → heap_of settings live waiting totals ≡ old → lookup (nat_eq from) live ≡ Some before
-    → can_take settings.align requested size before.span ≡ true
-    → IsPermutation ((to, resized before requested size) ∷ live) ((from, before) ∷ more)
-    → usage ≡ usage_of (memory_of more waiting) → new_totals ≡ with_usage totals usage
-    → KeepsHeapObject old from to before requested size (heap_of settings more waiting new_totals)
-keeps old settings totals new_totals live more waiting usage from to before requested size old_is is_live fits swaps usage_is
-    totals_is =
-    rw (← old_is) (record {
-      is_live = is_live;
-      fits = fits;
-      live = more;
-      swaps = swaps;
-      is_new = λ i. heap_of settings more waiting ((totals_is ∙ ap (λ (u : Usage). with_usage totals u) usage_is) i);
-    })
 
 -- a free changes no setting
 pub free_settings : (old new : Heap) (id : ℕ) (is_live : Bool) → FreesIfLive old id is_live new → new.settings ≡ old.settings

@@ -377,7 +377,7 @@ impl<P: Placer> Heap<P> {
         };
         put_for(&mut self.objects, from, to, object)?;
         self.usage = self.usage.with_size(before.size, size);
-        self.totals = self.totals.with_usage(self.usage);
+        self.count_state();
         Ok(())
     }
 
@@ -575,8 +575,6 @@ impl<P: Placer> Heap<P> {
     {
         if self.settings.policy.is_immediate() {
             self.release_last();
-            self.count_state();
-            return;
         }
         self.count_state();
     }
