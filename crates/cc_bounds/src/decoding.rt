@@ -66,7 +66,8 @@ pub fn exponent_field(fields: &Fields) -> u64
 
 /// Returns the exponent of a word's bounds, from 0 to 52.
 ///
-/// It is 0 without IE. With IE, the low three bits of the T field and of the B field hold it.
+/// It is 0 without IE. With IE, the low three bits of the T field and of the B field hold it; a value
+/// above 52 counts as 52.
 ///
 /// Source: UCAM-CL-TR-987, the decoding of the bounds; Woodruff et al. 2019.
 pub fn exponent(fields: &Fields) -> u8

@@ -16,7 +16,7 @@ use std::marker::Model;
 /// The bounds of a capability as its word stores them: a sound span with its exponent and its
 /// bounds fields, and whether the request for it was exact.
 ///
-/// Only [`set_bounds`], [`Set::of_fields`] and [`Set::of_sound`] create a `Set`.
+/// Only [`set_bounds`], [`Set::of_fields`], [`Set::of_sound`] and [`Set::as_exact`] create a `Set`.
 ///
 /// Source: UCAM-CL-TR-987, the compressed capability encoding; Woodruff et al. 2019.
 #[derive(Clone, Copy, PartialEq, Eq, Debug)]

@@ -2,7 +2,8 @@
 ghost use Rattle.std.specs.Prelude.{◌≡◌, ◌≤◌, ◌↔◌, IsTrue};
 ghost use Rattle.cc_bounds.specs.Span.{HasByte, IsWithin, SharesByte, length_of};
 
-/// The number of bytes of the address space: the maximum length, and the maximum top of a span.
+/// The number of bytes of the address space: the maximum length of a request, and the maximum top
+/// of a capability.
 pub const ADDRESS_SPACE: u128 = 1 << 64;
 
 /// The bytes [base, top).

@@ -136,7 +136,8 @@ impl Cap {
     /// bounds. The address does not change.
     ///
     /// Requires: `len <= 2^64`.
-    /// Errors, in order: `Sealed`; `OutOfBounds`, unless the requested bytes are within the bounds.
+    /// Errors, in order: `Sealed`; `OutOfBounds`, unless the requested bounds are within the current
+    /// ones.
     /// Instruction: CSetBounds.
     #[inline(always)]
     pub fn set_bounds(&self, len: u128) -> Result<Cap, Refusal>
@@ -155,8 +156,8 @@ impl Cap {
     /// The address does not change.
     ///
     /// Requires: `len <= 2^64`.
-    /// Errors, in order: `Sealed`; `OutOfBounds`, unless the requested bytes are within the bounds;
-    /// `Inexact`, if the bounds cannot be stored without rounding.
+    /// Errors, in order: `Sealed`; `OutOfBounds`, unless the requested bounds are within the current
+    /// ones; `Inexact`, if they cannot be stored without rounding.
     /// Instruction: CSetBoundsExact.
     #[inline(always)]
     pub fn set_bounds_exact(&self, len: u128) -> Result<Cap, Refusal>

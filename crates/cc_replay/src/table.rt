@@ -7,11 +7,12 @@ use cc_heap::Policy;
 /// The format of a table.
 #[derive(Clone, Copy)]
 pub enum Format {
-    /// A line for each row: the name, a space and the value.
+    /// A line for each name, with a space before its value. A table of several rows has a line of the names and a
+    /// line for each row, with spaces between.
     Text,
-    /// A line of the names and a line of the values, with commas between.
+    /// A line of the names, and a line of the values for each row, with commas between.
     Csv,
-    /// One object of JSON, on one line.
+    /// One object of JSON, on one line. A table of several rows is a list of them, one on a line.
     Json,
 }
 

@@ -9,7 +9,7 @@ ghost use Rattle.cc_word.specs.Refusal.{code_of, name_of};
 pub enum Refusal {
     /// An input that is not the required command, number or word.
     Syntax = 1,
-    /// A script that ends within a line: its last bytes have no line feed.
+    /// An input that ends too early: in a line without its line feed, in a word of bytes, or in a core file.
     Unfinished = 2,
     /// A line of a script that has more than 128 bytes.
     TooLong = 3,
@@ -48,7 +48,7 @@ pub enum Refusal {
     ZeroSize = 19,
     /// The size of an object for which the pool has no place left.
     NoRoom = 20,
-    /// The number of an object that does not exist, or of a freed object if a live one is required.
+    /// The number of an object that does not exist, or of one that is not live if a live one is required.
     NoObject = 21,
     /// The limit on slots or objects: as many were created as it allows.
     Full = 22,
