@@ -128,10 +128,6 @@ each_left : (xs ys : List (List ℕ)) → AllByRecursion IsEntry (xs ++ ys) → 
 each_left [] ys each = tt
 each_left (x ∷ xs) ys each = (each.0, each_left xs ys each.1)
 
-each_right : (xs ys : List (List ℕ)) → AllByRecursion IsEntry (xs ++ ys) → AllByRecursion IsEntry ys
-each_right [] ys each = each
-each_right (x ∷ xs) ys each = each_right xs ys each.1
-
 -- ---- the end of a text
 
 -- what is written for the run at the end

@@ -65,15 +65,6 @@ pub run_right : (xs ys : List ℕ) → IsRun (xs ++ ys) → IsRun ys
 run_right [] ys p = p
 run_right (x ∷ xs) ys p = run_right xs ys p.1
 
--- one more word character of a text
-pub run_further : (text : List ℕ) (count : ℕ) → count < length text → IsRun (take count text) → is_word_byte (get_or text count 0) ≡ true → IsRun (take (count + 1) text)
-run_further [] count some run word = absurd (omega (arith, some))
-run_further (x ∷ text) zero some run word = (word, tt)
-run_further (x ∷ text) (suc count) some run word =
-    let more : IsRun (x ∷ take (count + 1) text) = (run.0, run_further text count (omega (arith, some)) run.1 word) in
-    let next : suc (count + 1) ≡ suc count + 1 = omega arith in
-    subst (λ (n : ℕ). IsRun (take n (x ∷ text))) next more
-
 hex_word : (c : ℕ) → is_hex_digit c ≡ true → is_word_byte c ≡ true
 hex_word c h = grind arith
 

@@ -1,11 +1,10 @@
 -- The cells of a drawing that hold a byte of a span, and the rows and rectangles of a drawing.
-use Rattle.std.proofs.Common.{◌≡◌, ◌≤◌, ◌<◌, ◌+◌, ◌-◌, ◌*◌, ◌^◌, ◌++◌, ℕ, zero, suc, List, [], ◌∷◌, true, false, arith, inl, inr, max, min, refl}
-use Rattle.std.specs.Int.{div_ceil}
+use Rattle.std.proofs.Common.{◌≡◌, ◌≤◌, ◌<◌, ◌+◌, ◌-◌, ◌*◌, ◌++◌, ℕ, zero, suc, List, [], ◌∷◌, true, false, arith, inl, inr, max, min, refl}
 use Rattle.std.proofs.Math.Nat.{div-mul-le_self, lt-div-mul-add, mul-le-mul_right}
 use Rattle.std.proofs.lemmas.Bool.{cases_lt, le-ltb, lt-ltb}
 use Rattle.cc_bounds.specs.declared.span.Span.{Span}
 use Rattle.cc_bounds.specs.Span.{SharesByte}
-use Rattle.cc_bounds.proofs.GranuleLemmas.{div_ceil-le, div_ceil-lt, le-div_ceil}
+use Rattle.cc_bounds.proofs.GranuleLemmas.{div_ceil-lt, le-div_ceil}
 use Rattle.cc_plan.specs.declared.planned_object.ObjectState.{ObjectState}
 use Rattle.cc_plan.specs.PlannedObject.{PlannedObject}
 use Rattle.cc_draw.specs.Drawing.{AreCellsOf, end_cell, first_cell, is_in, layer_text, object_text, parts_text, rectangle_text}
@@ -58,12 +57,6 @@ cells-are start size span some low held = record {
   from_first = from-first start size span some low;
   below_end = below-end start size span some;
 }
-
--- ---- sizes
-
--- In a pool of at most 2^64 bytes a cell has at most 2^50.
-pub size_fits : (bytes : ℕ) → bytes ≤ 2 ^ 64 → div_ceil bytes 16384 ≤ 2 ^ 50
-size_fits bytes fits = div_ceil-le bytes 16384 (2 ^ 50) (omega arith) (omega (arith, fits))
 
 -- ---- the next output of the loops
 

@@ -1,7 +1,7 @@
 -- The rows of a map, and their number.
-use Rattle.std.proofs.Common.{◌≡◌, ◌≤◌, ◌<◌, ◌+◌, ◌-◌, ◌*◌, ◌^◌, ◌++◌, ℕ, zero, suc, List, [], arith, min, refl, subst, take}
+use Rattle.std.proofs.Common.{◌≡◌, ◌≤◌, ◌<◌, ◌+◌, ◌-◌, ◌*◌, ◌++◌, ℕ, zero, suc, List, [], arith, min, refl, subst, take}
 use Rattle.std.specs.Int.{div_ceil}
-use Rattle.cc_bounds.proofs.GranuleLemmas.{div_ceil-le, le-div_ceil}
+use Rattle.cc_bounds.proofs.GranuleLemmas.{div_ceil-le}
 use Rattle.cc_plan.specs.PlannedObject.{PlannedObject}
 use Rattle.cc_draw.specs.Map.{AreMapRows, IsMapRow, map_row_text}
 

@@ -1,5 +1,5 @@
 -- Output that is written in several chunks.
-use Rattle.std.proofs.Common.{◌≡◌, ◌+◌, ◌∙◌, ◌++◌, ℕ, List, [], Option, Result, Ok, Err, append-nil, append_assoc, ap, arith, inl, inr, length, length-append, refl, subst, sym, take}
+use Rattle.std.proofs.Common.{◌≡◌, ◌+◌, ◌∙◌, ◌++◌, ℕ, List, [], Option, Result, Ok, Err, append_assoc, ap, arith, inl, inr, length, length-append, refl, subst, sym, take}
 use Rattle.std.proofs.lemmas.List.{take-append-le}
 use Rattle.std.proofs.Math.Seq.{take-append-add}
 use Rattle.std.specs.Prelude.{OnErr, OnOk, ⊤}

@@ -72,10 +72,6 @@ once_fewer spans span once byte =
 
 -- ---- spans in two lists
 
-append_assoc : (xs ys zs : List Span) → (xs ++ ys) ++ zs ≡ xs ++ (ys ++ zs)
-append_assoc [] ys zs = refl
-append_assoc (x ∷ xs) ys zs = ap (λ (l : List Span). x ∷ l) (append_assoc xs ys zs)
-
 -- the spans of entries and those that wait, with one entry more
 pub held_made : (entry : ℕ × Object) (live more : List (ℕ × Object)) (waiting : List Span)
     → IsPermutation (entry ∷ live) more

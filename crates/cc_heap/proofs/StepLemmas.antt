@@ -2,7 +2,6 @@
 use Rattle.std.proofs.Common.{ℕ, Bool, true, false, ◌≡◌, ◌+◌, ◌-◌, ◌<◌, nat_eq, List, [], ◌∷◌, ◌++◌, Option, Some, Result, Ok, Err, IfOk, IsSome, map, length, arith, refl, subst}
 use Rattle.std.proofs.Common.{◌∙◌, sym, ap, inl, inr, IsPermutation}
 use Rattle.std.specs.Map.{lookup}
-use Rattle.std.proofs.lemmas.Bool.Decides.{nat_tests}
 use Rattle.std.proofs.lemmas.List.Sorted.{IsPermutation-refl}
 use Rattle.cc_bounds.specs.declared.span.Span.{Span}
 use Rattle.cc_heap.specs.declared.making.Making.{Making}
@@ -13,9 +12,9 @@ use Rattle.cc_heap.specs.declared.totals.Totals.{Totals}
 use Rattle.cc_heap.specs.declared.usage.Usage.{Usage}
 use Rattle.cc_heap.specs.Totals.{with_made}
 use Rattle.cc_heap.specs.Memory.{memory_object, object_span, usage_of}
-use Rattle.cc_heap.specs.Heap.{Attempts, FreesHeapObject, Heap, MakesHeapObject, is_made, object_under, swept_heap}
-use Rattle.cc_heap.specs.Events.{AttemptsToReplace, ClearsOther, FailsToReallocate, FollowsPolicy, FreesInHeap, FreesIfLive, HasNoRoomInHeap, Replaces, Tries, TriesToReplace}
-use Rattle.cc_heap.specs.HeapState.{IsQuarantined, IsReplaced, QuarantinesLive, Settles}
+use Rattle.cc_heap.specs.Heap.{Attempts, Heap, MakesHeapObject, is_made, object_under, swept_heap}
+use Rattle.cc_heap.specs.Events.{AttemptsToReplace, ClearsOther, FailsToReallocate, FollowsPolicy, FreesIfLive, HasNoRoomInHeap, Tries, TriesToReplace}
+use Rattle.cc_heap.specs.HeapState.{IsReplaced, QuarantinesLive}
 use Rattle.cc_heap.proofs.PlaceLemmas.{IsFound}
 use Rattle.cc_heap.proofs.HeapLemmas.{heap_of, held_length, memory_of}
 
@@ -87,36 +86,6 @@ replaced old settings totals new_totals live more waiting new_waiting usage id b
       quarantines = record { live = more; takes = takes; is_new = rw waiting_is refl };
     })
 
-pub frees_object : (old between new : Heap) (id : ℕ) (object : Object) → IsQuarantined old id object between
-    → Settles between new → FreesHeapObject old id object new
-frees_object old between new id object quarantined settles =
-    let after : Settles (heap_of old.settings quarantined.live (old.memory.quarantined ++ object.span ∷ []) old.totals) new =
-    subst (λ (h : Heap). Settles h new) quarantined.is_new settles in
-    record {
-      live = quarantined.live;
-      takes = quarantined.takes;
-      is_new = after old.memory.quarantined object.span refl;
-    }
-
-pub frees : (old between settled new : Heap) (id : ℕ) → QuarantinesLive old id between → Settles between settled
-    → FollowsPolicy settled new → FreesInHeap old id new
-frees old between settled new id quarantined settles follows = record {
-  object = quarantined.object;
-  is_live = quarantined.is_live;
-  freed = settled;
-  frees = frees_object old between settled id quarantined.object quarantined.quarantines settles;
-  follows = follows;
-}
-
-pub replaces : (old between new : Heap) (id size : ℕ) → IsReplaced old id 1 size between → Settles between new → Replaces old id size new
-replaces old between new id size is settles = record {
-  before = is.before;
-  is_live = is.is_live;
-  made = is.made;
-  makes = is.makes;
-  frees = frees_object is.made between new id is.before is.quarantines settles;
-}
-
 -- a free changes no setting
 pub free_settings : (old new : Heap) (id : ℕ) (is_live : Bool) → FreesIfLive old id is_live new → new.settings ≡ old.settings
 free_settings old new id true freed = by_policy freed.follows ∙ ap (λ (h : Heap). h.settings) freed.frees.is_new
@@ -174,14 +143,6 @@ replaces_again old between after new id size first (Ok making) not attempts afte
 replaces_again old between after new id size first (Err error) not attempts after_is again = tt
 
 -- ---- events
-
--- numbers that differ
-pub differ : (one other : ℕ) → (one ≡ other → ⊥) → nat_eq other one ≡ false
-differ one other apart = by_case (nat_eq other one) refl
-  where
-    by_case : (b : Bool) → nat_eq other one ≡ b → nat_eq other one ≡ false
-    by_case true is = absurd (apart (grind (arith, nat_tests)))
-    by_case false is = is
 
 -- an object that keeps its place, without memory for its new id
 pub fails_to_keep : (old cleared new : Heap) (from to : ℕ) (object : Object) (was_live : Bool)

@@ -104,14 +104,6 @@ parts {S} A E frame is old first second output error new whole o =
 
 -- ---- a page of one reply
 
--- there are no replies if they have no bytes
-no_answers : {S : Type 0} (A : Relation S) → IsSome A → (a b : S) (entries : List (List ℕ)) (answers : List Answer) → AnswersAll A a entries answers b
-    → length (answers_text answers) ≡ 0 → answers ≡ []
-no_answers {S} A some a b entries [] t none = refl
-no_answers {S} A some a b [] (r ∷ rs) t none = absurd t
-no_answers {S} A some a b (entry ∷ entries) (r ∷ rs) t none =
-    absurd (omega (arith, none, length-append r.text (answers_text rs), some a entry r.text r.is_error t.0 t.1))
-
 pub record One {S : Type 0} (A : Relation S) (a : S) (entries : List (List ℕ)) (answer : Answer) (b : S) : Type 0 where
   pub entry : List ℕ
   pub entries_are : entries ≡ entry ∷ []

@@ -13,7 +13,7 @@ use Rattle.cc_io.specs.FrameLaws.{lines_frame, blocks_frame}
 use Rattle.cc_io.specs.Frames.{IsFrame}
 use Rattle.cc_decode.specs.Correct.{WritesListing}
 use Rattle.cc_decode.specs.Input.{frame_of, input_entries, left_of}
-use Rattle.cc_decode.specs.Output.{AreAnswers, EndsListing, IsEnding}
+use Rattle.cc_decode.specs.Output.{AreAnswers, IsEnding}
 use Rattle.cc_decode.specs.Place.{after_entry, header_of, options_after}
 use Rattle.cc_laws.specs.ListingParts.{AreListingRows, RowsInParts}
 use Rattle.cc_io.specs.declared.input_form.ByteOrder.{ByteOrder}

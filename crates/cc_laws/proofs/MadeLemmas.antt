@@ -1,9 +1,9 @@
 -- The objects that an event makes, and the rows of their sizes over all states.
-use Rattle.std.proofs.Common.{ℕ, zero, suc, min, max, Bool, true, false, ◌≡◌, ◌⊎◌, ◌+◌, ◌-◌, ◌*◌, ◌<◌, ◌≤◌, ◌^◌, nat_eq, if◌then◌else◌, List, [], ◌∷◌, ◌++◌, Option, Some, None, get_or, length}
-use Rattle.std.proofs.Common.{replicate, sum_by, arith, refl, subst, ◌∙◌, sym, ap, inl, inr}
+use Rattle.std.proofs.Common.{ℕ, zero, suc, min, max, Bool, true, false, ◌≡◌, ◌+◌, ◌-◌, ◌<◌, ◌≤◌, ◌^◌, nat_eq, if◌then◌else◌, List, [], ◌∷◌, ◌++◌, Option, Some, None, get_or, length}
+use Rattle.std.proofs.Common.{sum_by, arith, refl, subst, ◌∙◌, sym, ap, inl, inr}
 use Rattle.std.specs.Option.{MatchOption}
 use Rattle.std.proofs.lemmas.List.{get_or-replicate, length-replicate}
-use Rattle.std.proofs.lemmas.List.Sums.{sum_by-append, sum_by-cons}
+use Rattle.std.proofs.lemmas.List.Sums.{sum_by-append}
 use Rattle.cc_bounds.specs.declared.align.Align.{Align}
 use Rattle.cc_bounds.specs.Span.{length_of}
 use Rattle.cc_placer.specs.Align.{padded_size_for}
@@ -24,7 +24,7 @@ use Rattle.cc_heap.specs.Events.{FreesIfLive, IsEvent, KeepsPlace, Reallocates, 
 use Rattle.cc_heap.specs.Events.{Tries, TriesToReplace}
 use Rattle.cc_heap.specs.Run.{ArePassedBy, Moment, PassesEvent}
 use Rattle.cc_heap.specs.Sizes.{is_of_power, made_size, no_objects, no_sizes, of_size, sizes_after, with_made_size, with_sized_object, with_size}
-use Rattle.cc_heap.specs.Lost.{HasSizes, IsRunEvent, RunState, RunsNoting, empty_run}
+use Rattle.cc_heap.specs.Lost.{HasSizes, RunState, RunsNoting, empty_run}
 use Rattle.cc_laws.proofs.HistoryLemmas.{capped_more, capped_same, joined}
 
 -- ---- one row

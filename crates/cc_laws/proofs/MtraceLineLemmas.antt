@@ -1,6 +1,5 @@
 -- The lines that mtrace writes report what happened.
-use Rattle.std.proofs.Common.{◌≡◌, ◌≢◌, ℕ, false, suc, ◌+◌, ◌-◌, ◌*◌, ◌^◌, ◌<◌, ◌≤◌, ◌==◌, List, [], ◌∷◌, ◌++◌, take, drop, length, Result, Ok, Err, refl, sym, ◌∙◌, ap, subst, arith}
-use Rattle.std.specs.Prelude.{codes}
+use Rattle.std.proofs.Common.{◌≡◌, ◌≢◌, ℕ, false, ◌+◌, ◌-◌, ◌^◌, ◌<◌, ◌≤◌, ◌==◌, List, [], ◌∷◌, ◌++◌, take, drop, length, Ok, refl, ◌∙◌, ap, subst, arith}
 use Rattle.std.specs.Char.{digit_value}
 use Rattle.std.specs.Fmt.{digits}
 use Rattle.std.specs.List.{AllByRecursion, after_first, before_first, position_or_len}
@@ -9,14 +8,12 @@ use Rattle.std.proofs.Math.Seq.{drop-append-add, take-append_seam}
 use Rattle.std.proofs.lemmas.Bool.{eq-eqb, eqb-false, le-leb, le-ltb, ne_eqb}
 use Rattle.std.proofs.lemmas.Fmt.{digits_is_IsNumeral}
 use Rattle.cc_word.specs.WordText.{hexadecimal}
-use Rattle.cc_word.specs.declared.refusal.Refusal.{Refusal}
 use Rattle.cc_values.specs.Values.{address_in, both}
 use Rattle.cc_values.specs.Numbers.{within_limit}
 use Rattle.cc_values.proofs.ReadBackLemmas.{hexadecimal-read}
-use Rattle.cc_replay.specs.declared.report.LineReport.{LineReport}
 use Rattle.cc_replay.specs.declared.report.LineReport.TheVariants as report
 use Rattle.cc_replay.specs.Reports.{object_in, pointer_in}
-use Rattle.cc_replay.specs.Mtrace.{IsCaller, after_caller, allocation_line, free_line, mtrace_in, spaced_in}
+use Rattle.cc_replay.specs.Mtrace.{IsCaller, allocation_line, free_line, mtrace_in, spaced_in}
 
 -- the first byte of a value, after bytes of others
 first_at : (at : ℕ) (before rest : List ℕ) → AllByRecursion (λ byte. byte ≢ at) before

@@ -1,23 +1,11 @@
 -- Multiples of the alignment, and places.
-use Rattle.std.proofs.Common.{ℕ, suc, ◌≡◌, ◌+◌, ◌*◌, ◌/◌, ◌%◌, ◌-◌, ◌^◌, ◌<◌, ◌≤◌, max, List, Contains, arith, bit_and}
+use Rattle.std.proofs.Common.{ℕ, suc, ◌≡◌, ◌+◌, ◌*◌, ◌/◌, ◌%◌, ◌-◌, ◌<◌, ◌≤◌, max, List, Contains, arith}
 use Rattle.std.specs.Int.{div_ceil}
-use Rattle.std.proofs.lemmas.Nat.{and_mask, pow_pos}
-use Rattle.std.proofs.Math.Pow.{pow_mono}
-use Rattle.std.proofs.Math.Nat.{pow-suc, div-add-mod, mul-mod_left, mod-lt, mul-suc, mul_comm, lt_of_mul-lt-mul_left, mul-le-mul_left}
+use Rattle.std.proofs.Math.Nat.{div-add-mod, mul-mod_left, mod-lt, mul-suc, mul_comm, lt_of_mul-lt-mul_left, mul-le-mul_left}
 use Rattle.cc_bounds.proofs.GranuleLemmas.{div_ceil-lt, le-div_ceil}
 use Rattle.cc_bounds.specs.declared.span.Span.{Span}
 use Rattle.cc_bounds.specs.Span.{SharesByte, span_from}
 use Rattle.cc_placer.specs.Placement.{IsApartFrom}
-
--- below a power of two the mask of its low bits leaves the same as a division
-pub masked : (n align power : ℕ) → power < 64 → align ≡ 1 * 2 ^ power % 2 ^ 64
-    → bit_and n (1 * 2 ^ power % 2 ^ 64 - 1) ≡ n % align
-masked n align power fits is =
-    let p = pow_mono fits in
-    let q = pow-suc 2 power in
-    let pos = pow_pos power in
-    let e : 1 * 2 ^ power % 2 ^ 64 ≡ 2 ^ power = omega (arith, p, q, pos) in
-    rw (is, e) (and_mask n power)
 
 -- a multiple from n up, less than `align` above n
 pub record IsNextMultiple (n align multiple : ℕ) : Type 0 where

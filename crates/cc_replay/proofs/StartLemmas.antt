@@ -1,5 +1,5 @@
 -- The first bytes of a line, on which its report depends.
-use Rattle.std.proofs.Common.{suc, ◌≤◌, take, length-take, if◌then◌else◌, not, inl, inr, ◌≡◌, ℕ, ◌==◌, List, [], ◌∷◌, length, Result, Ok, Err, refl, sym, ◌∙◌, ap, arith}
+use Rattle.std.proofs.Common.{suc, ◌≤◌, take, length-take, if◌then◌else◌, not, inl, inr, ◌≡◌, ℕ, ◌==◌, List, [], ◌∷◌, length, Ok, Err, refl, sym, ◌∙◌, ap, arith}
 use Rattle.std.proofs.lemmas.Bool.{cases_lt, lt-ltb}
 use Rattle.std.proofs.lemmas.List.{take_all}
 use Rattle.cc_word.specs.declared.refusal.Refusal.TheVariants as refusal

@@ -6,7 +6,7 @@ use Rattle.cc_replay.specs.Heaptrack.{heaptrack_in}
 use Rattle.cc_replay.specs.Ltrace.{ltrace_in}
 use Rattle.cc_replay.specs.Mtrace.{mtrace_in}
 use Rattle.cc_replay.specs.declared.report.LineReport.{LineReport}
-use Rattle.cc_replay.specs.declared.report.LineReport.TheVariants.{Nothing, Failure, Allocation, Clearing, Reallocation, From, To}
+use Rattle.cc_replay.specs.declared.report.LineReport.TheVariants.{Failure, Allocation, Clearing, Reallocation, From, To}
 use Rattle.cc_replay.specs.declared.report.LineReport.TheVariants as report
 use Rattle.cc_heap.specs.declared.event.Event.{Event}
 use Rattle.cc_heap.specs.declared.event.Event.TheVariants as event

@@ -1,5 +1,5 @@
 -- The lines that ltrace writes for calls of `malloc`, `calloc`, `realloc` and `free`.
-use Rattle.std.specs.Prelude.{ℕ, Bool, zero, suc, ◌*◌, ◌^◌, ◌==◌, nat_lt, codes, List, [], ◌∷◌, length, if◌then◌else◌, Result, Ok, Err}
+use Rattle.std.specs.Prelude.{ℕ, Bool, ◌*◌, ◌^◌, ◌==◌, nat_lt, codes, List, [], ◌∷◌, length, if◌then◌else◌, Result, Ok, Err}
 use Rattle.std.specs.List.{after_first, before_first, position_or_len}
 use Rattle.std.specs.Str.{bytes_eq}
 use Rattle.cc_word.specs.declared.refusal.Refusal.{Refusal}

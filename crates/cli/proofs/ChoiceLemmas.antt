@@ -14,13 +14,6 @@ use Rattle.cli.specs.Invocation.{choice_mistake, choice_mistake_in, mistakes_of,
 
 -- ---- the values of `explain`
 
--- WORD excludes the options of a length.
-pub word_alone : (size base : Option Text) (svg is_address : Bool) → choice_mistake true (is_some size) (is_some base) svg is_address ≡ None
-    → (size ≡ None) × (base ≡ None)
-word_alone None None svg is_address e = (refl, refl)
-word_alone None (Some text) svg is_address e = cc e
-word_alone (Some text) base svg is_address e = cc e
-
 -- Without WORD, `--length` is required, and excludes `--svg`; the base is an address.
 pub length_wanted : (size base : Option Text) (svg is_address : Bool) → choice_mistake false (is_some size) (is_some base) svg is_address ≡ None
     → ((text : Text) × (size ≡ Some text)) × (svg ≡ false) × (is_address ≡ true)

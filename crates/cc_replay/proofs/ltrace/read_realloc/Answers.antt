@@ -1,4 +1,4 @@
-use Rattle.std.proofs.Common.{◌≡◌, ◌∙◌, ℕ, Result, ap}
+use Rattle.std.proofs.Common.{◌∙◌, ℕ, Result, ap}
 use Rattle.cc_word.specs.declared.refusal.Refusal.{Refusal}
 use Rattle.cc_values.specs.Values.{both}
 use Rattle.cc_replay.specs.Ltrace.{arguments_of, reallocated, resized_in}

@@ -1,5 +1,5 @@
-use Rattle.std.proofs.Common.{◌≡◌, ◌∙◌, ◌++◌, List, ap, append_assoc, arith, length, rules, ℕ}
-use Rattle.cc_replay.specs.Rows.{Row, table_end, table_heading}
+use Rattle.std.proofs.Common.{◌≡◌, arith, length, rules}
+use Rattle.cc_replay.specs.Rows.{table_end, table_heading}
 use Rattle.cc_replay.specs.SizeTable.{all_sizes, any_size}
 use Rattle.cc_replay.proofs.RowLemmas.{headed}
 use Rattle.cc_replay.proofs.size_table.push_sizes.Goals as goal
