@@ -1,5 +1,5 @@
 -- The input that FILE names.
-use Rattle.std.specs.Prelude.{◌≡◌, Bool, Option, Some, None, codes, false, if◌then◌else◌, ⊤}
+use Rattle.std.specs.Prelude.{◌≡◌, [], ◌∷◌, Bool, List, Option, Some, None, codes, false, if◌then◌else◌, ⊤}
 use Rattle.std.specs.Borrow.{Bor}
 use Rattle.std.specs.Str.{bytes_eq}
 use Rattle.clap.specs.Words.{Text}
@@ -25,10 +25,12 @@ abbrev pub OpensFile : (tags : Option (Bor Text)) (input : InputName) → Type 0
 OpensFile None input = IsFile input
 OpensFile (Some path) input = ⊤
 
--- AreUnasked holds if the last input that was requested is neither this one nor the file of its tags.
-abbrev pub AreUnasked : (tags : Option (Bor Text)) (input : InputName) → Content → (last_asked : InputName → Content → Bool) → Type 0
-AreUnasked None input content last_asked = last_asked input content ≡ false
-AreUnasked (Some path) input content last_asked = (last_asked input content ≡ false) × (last_asked (File path) content ≡ false)
+-- AreUnasked holds if the requests were not this input alone. With a file of tags it holds if they were neither that file alone nor
+-- that file and then this input. `requested` says which requests there were, the last one first.
+abbrev pub AreUnasked : (tags : Option (Bor Text)) (input : InputName) → Content → (requested : List (InputName × Content) → Bool) → Type 0
+AreUnasked None input content requested = requested ((input, content) ∷ []) ≡ false
+AreUnasked (Some path) input content requested =
+    (requested ((File path, content) ∷ []) ≡ false) × (requested ((input, content) ∷ (File path, content) ∷ []) ≡ false)
 
 -- The content of the trace of `replay`, by its output.
 abbrev pub trace_content : Option ReplayOutput → Content

@@ -1,6 +1,6 @@
 //! The inputs that commands read.
-ghost use Rattle.std.specs.Prelude.{◌≡◌, ◌↔◌, ◌≤◌, ℕ, Bool, List, Option, Some, IfErr, IfOk, IfSome, IsErr, OnOk, drop};
-ghost use Rattle.std.specs.Prelude.{false, true};
+ghost use Rattle.std.specs.Prelude.{◌≡◌, ◌↔◌, ◌≤◌, ◌∷◌, ℕ, Bool, List, Option, Some, IfErr, IfOk, IfSome, IsErr, OnOk};
+ghost use Rattle.std.specs.Prelude.{drop, false, true};
 ghost use Rattle.cli.specs.declared.input.Content.{Content as ContentSpec};
 ghost use Rattle.cli.specs.declared.input.InputName.{InputName as InputNameSpec};
 ghost use Rattle.cli.specs.Input.{IsFile, file_input};
@@ -40,9 +40,9 @@ pub trait Inputs {
     // The bytes of an input, if they are known. Opening an input does not change them.
     ghost bytes_of: { Self → InputNameSpec → Option (List ℕ) };
 
-    // Whether the last input that was requested is this one, with this content. Nothing says which ones were requested
-    // before it, or whether they were read.
-    ghost last_asked: { Self → InputNameSpec → ContentSpec → Bool };
+    // Whether these may be all requests by `open` and `open_after`, the last one first. It is true of those that were
+    // made.
+    ghost requested: { Self → List (InputNameSpec × ContentSpec) → Bool };
 
     // An input that was requested was not opened. No other is requested after it.
     ghost has_refused: { Self → Bool };
@@ -64,7 +64,8 @@ pub trait Inputs {
             (λ bytes. (Self.Opened.state source.new).unread ≡ Some bytes)) }
         ensures kept { bytes_of self.new ≡ bytes_of self.old }
         ensures fails { IfErr result (λ fault. (fault ≡ Fault.Open) × IsFile input.entry) }
-        ensures asked { last_asked self.new input.entry content ≡ true }
+        ensures asked { (before : List (InputNameSpec × ContentSpec)) → requested self.old before ≡ true
+            → requested self.new ((input.entry, content) ∷ before) ≡ true }
         ensures refused { IsErr result ↔ (has_refused self.new ≡ true) }
         ensures unfailed { (Self.Opened.state source.new).has_failed ≡ false };
 
@@ -85,11 +86,13 @@ pub trait Inputs {
             (λ bytes. (Self.Opened.state source.new).unread ≡ Some (drop passed bytes))) }
         ensures within { IfOk result (λ passed. passed ≤ most) }
         ensures fails { IfErr result (λ fault. (fault ≡ Fault.Open) × IsFile input.entry) }
-        ensures asked { last_asked self.new input.entry content ≡ true }
+        ensures asked { (before : List (InputNameSpec × ContentSpec)) → requested self.old before ≡ true
+            → requested self.new ((input.entry, content) ∷ before) ≡ true }
         ensures refused { IsErr result ↔ (has_refused self.new ≡ true) }
         ensures unfailed { (Self.Opened.state source.new).has_failed ≡ false };
 
     /// Returns the first bytes of the regular file of this name, at most 36, or `None` if they cannot be read.
+    /// This is not among the requests: no clause says for which file it is called.
     fn start_of(&self, path: &str) -> Option<Page<36>>;
 }
 

@@ -61,8 +61,8 @@ impl<'a, R: AllocGlobal + Files + Input + Eprint> Inputs for ProcessInputs<'a, R
     // No contract of std says which bytes a file holds.
     ghost bytes_of = { λ _ _. None };
 
-    // The name of the last input is not kept.
-    ghost last_asked = { λ _ _ _. true };
+    // The requests are not kept, so every list fits. That a request opens the file of its name is tested, not proved.
+    ghost requested = { λ _ _. true };
 
     ghost has_refused = { λ inputs. inputs.has_refused };
 

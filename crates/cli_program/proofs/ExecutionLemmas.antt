@@ -1,5 +1,5 @@
 -- The effect of a command whose texts may be refused, from what its function promises.
-use Rattle.std.proofs.Common.{◌≡◌, Bool, Result, Ok, Err, subst, sym}
+use Rattle.std.proofs.Common.{◌≡◌, Bool, List, Result, Ok, Err, subst, sym}
 use Rattle.std.specs.Prelude.{IfSome, IsOk, MatchResult}
 use Rattle.std.proofs.lemmas.Bool.{false≢true}
 use Rattle.cc_io.specs.CommandOutput.{WritesRefusal}
@@ -40,10 +40,10 @@ pub opens : {Values : Type 0} (found : Result Values Refusal) (effect : Values �
 opens (Ok values) effect holds = holds values
 opens (Err refusal) effect holds = tt
 
-pub asks : {Values : Type 0} (found : Result Values Refusal) (effect : Values → Effect) (last_asked : InputName → Content → Bool) (Same : Type 0)
-    → (¬ IsOk found → Same) → ((values : Values) → IsUnasked (effect values).input last_asked → Same) → IsUnasked (with_values found effect).input last_asked → Same
-asks (Ok values) effect last_asked Same unused asked is = asked values is
-asks (Err refusal) effect last_asked Same unused asked is = unused (λ ok. false≢true ok)
+pub asks : {Values : Type 0} (found : Result Values Refusal) (effect : Values → Effect) (requested : List (InputName × Content) → Bool) (Same : Type 0)
+    → (¬ IsOk found → Same) → ((values : Values) → IsUnasked (effect values).input requested → Same) → IsUnasked (with_values found effect).input requested → Same
+asks (Ok values) effect requested Same unused asked is = asked values is
+asks (Err refusal) effect requested Same unused asked is = unused (λ ok. false≢true ok)
 
 pub silent : {Values : Type 0} (found : Result Values Refusal) (effect : Values → Effect) (Same : Type 0)
     → (¬ IsOk found → Same) → ((values : Values) → ¬ (effect values).Reports → Same) → ¬ (with_values found effect).Reports → Same

@@ -1,5 +1,5 @@
 -- The bytes and the end of the program for a command line that is accepted.
-use Rattle.std.specs.Prelude.{ℕ, ◌≡◌, ◌⊎◌, ◌↔◌, true, false, List, [], Bool, Option, Some, Ok, Err, Result, IfSome, OnErr, OnOk}
+use Rattle.std.specs.Prelude.{ℕ, ◌≡◌, ◌⊎◌, ◌↔◌, true, false, List, [], ◌∷◌, Bool, Option, Some, Ok, Err, Result, IfSome, OnErr, OnOk}
 use Rattle.clap.specs.Words.{Row, Text}
 use Rattle.cc_io.specs.Devices.{InputState, OutputState}
 use Rattle.cc_io.specs.declared.summary.Summary.{Summary}
@@ -21,24 +21,24 @@ use Rattle.cli.specs.declared.fault.Fault.TheVariants as fault
 use Rattle.cli_program.specs.declared.terminals.Terminals.{Terminals}
 
 -- The devices after the program: whether an input was not opened, a read failed, a write failed, and an allocation failed; whether the
--- output is flushed; and whether the last input that was requested is this one.
+-- output is flushed; and which inputs were requested, the last one first.
 pub record Failures : Type 0 where
   pub open_failed : Bool
   pub read_failed : Bool
   pub write_failed : Bool
   pub memory_failed : Bool
   pub is_flushed : Bool
-  pub last_asked : InputName → Content → Bool
+  pub requested : List (InputName × Content) → Bool
 
 -- The failures of these devices.
-abbrev pub failures_of : (open_failed : Bool) → InputState → OutputState → (memory_failed : Bool) → (last_asked : InputName → Content → Bool) → Failures
-failures_of open_failed source output memory_failed last_asked = record {
+abbrev pub failures_of : (open_failed : Bool) → InputState → OutputState → (memory_failed : Bool) → (requested : List (InputName × Content) → Bool) → Failures
+failures_of open_failed source output memory_failed requested = record {
   open_failed = open_failed;
   read_failed = source.has_failed;
   write_failed = output.has_failed;
   memory_failed = memory_failed;
   is_flushed = output.is_flushed;
-  last_asked = last_asked;
+  requested = requested;
 }
 
 -- TellsFailures holds if the result is an error of a device if and only if that device failed.
@@ -48,14 +48,14 @@ pub record TellsFailures (failures : Failures) (result : Result Summary Fault) :
   pub writes : (result ≡ Err fault.Write) ↔ (failures.write_failed ≡ true)
   pub allocates : (result ≡ Err fault.Memory) ↔ (failures.memory_failed ≡ true)
 
--- ReadsAsked holds if an opening or a read failed only if the last input that was requested is this one. If there is none, neither
--- failed.
+-- ReadsAsked holds if an opening or a read failed only if the requests were this input alone, or, with a file of tags, that file alone
+-- or that file and then this input. If there is no input, neither failed.
 abbrev pub ReadsAsked : Option Asked → Failures → Type 0
-ReadsAsked asked failures = IsUnasked asked failures.last_asked → (failures.open_failed ≡ false) × (failures.read_failed ≡ false)
+ReadsAsked asked failures = IsUnasked asked failures.requested → (failures.open_failed ≡ false) × (failures.read_failed ≡ false)
 
 -- EndsEffect holds if a command with this effect was executed on devices in these states before and after it, and its result ends
 -- the program. The result is an error of a device if and only if that device failed. It also says what was written after a failed
--- opening or allocation, and that an opening or a read failed only if the effect's input was requested last.
+-- opening or allocation, and that an opening or a read failed only if the effect's input, or the file of its tags, was requested, and no other.
 pub record EndsEffect (effect : Effect) (console : Console) (failures : Failures) (ending : Ending) : Type 0 where
   pub result : Result Summary Fault
   pub executes : OnDevices (effect.Does console) result
@@ -80,7 +80,7 @@ pub record ExecutesCommand (replay : ReplayCommand) (found : Option (Text × Lis
 -- AnswersScript holds if the result is an error of a device if and only if that device failed, and is the end of the program. After a
 -- summary or a failed read or write, the main theorem holds of a run on a new machine that read these bytes and wrote after the bytes
 -- `taken`. After a failed opening nothing was written, and after a failed allocation nothing was, or the whole output. An opening or a
--- read failed only if the last input that was requested is the script's.
+-- read failed only if the script's input was requested, once, and no other.
 pub record AnswersScript (script : Script) (bytes taken : List ℕ) (left taken_now : Option (List ℕ)) (failures : Failures) (ending : Ending) : Type 0 where
   pub result : Result Summary Fault
   pub main : OnDevices (MeetsFrom script.opening (initial_state script.limit) (Some bytes) left (Some taken) taken_now) result
@@ -90,7 +90,7 @@ pub record AnswersScript (script : Script) (bytes taken : List ℕ) (left taken_
       ⊎ ((summary : Summary) × MeetsFrom script.opening (initial_state script.limit) (Some bytes) left (Some taken) taken_now (Ok summary))
   pub flushed : OnOk result (failures.is_flushed ≡ true)
   pub fails : TellsFailures failures result
-  pub asks : failures.last_asked script.input content.Script ≡ false → (failures.open_failed ≡ false) × (failures.read_failed ≡ false)
+  pub asks : failures.requested ((script.input, content.Script) ∷ []) ≡ false → (failures.open_failed ≡ false) × (failures.read_failed ≡ false)
   pub ends : ending ≡ ending_of result
 
 -- RunsToEnd holds if the main theorem does of a run on a new machine that read these bytes to their end, and succeeded. So the whole

@@ -35,10 +35,11 @@ pub record Asked : Type 0 where
   pub content : Content
   pub tags : Option (Bor Text)
 
--- IsUnasked holds if the last input that was requested is not this one, nor the file of its tags.
-abbrev pub IsUnasked : Option Asked → (last_asked : InputName → Content → Bool) → Type 0
-IsUnasked (Some asked) last_asked = AreUnasked asked.tags asked.input asked.content last_asked
-IsUnasked None last_asked = ⊤
+-- IsUnasked holds if the requests were neither this input, after the file of its tags, if there is one, nor that file alone. It
+-- holds if there is no input.
+abbrev pub IsUnasked : Option Asked → (requested : List (InputName × Content) → Bool) → Type 0
+IsUnasked (Some asked) requested = AreUnasked asked.tags asked.input asked.content requested
+IsUnasked None requested = ⊤
 
 -- The effect of a command on its devices:
 --

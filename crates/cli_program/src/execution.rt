@@ -1,5 +1,5 @@
 //! Executes a command on given devices.
-ghost use Rattle.std.specs.Prelude.{◌≡◌, ◌↔◌, false, true, Err, IfSome, Option, List, OnErr};
+ghost use Rattle.std.specs.Prelude.{◌≡◌, ◌↔◌, [], false, true, Err, IfSome, Option, List, OnErr};
 ghost use Rattle.clap.specs.Words.{Row, Text};
 ghost use Rattle.cli.specs.Invocation.{IsInvocation};
 ghost use Rattle.cli.specs.Devices.{IsEnd, OnDevices, console_of};
@@ -23,7 +23,7 @@ use cli_words::{annotate_file, ask, decode_core_file, decode_file, round_file};
 /// refusal, and nothing is read. The program has refused such values of `replay` before. The machine or the heap is
 /// created next, and then the input is opened.
 ///
-/// Requires: the invocation is one that a command line has, and no device has failed.
+/// Requires: the invocation is one that a command line has, no device has failed, and no input was requested.
 /// Errors: `Memory`, `Open`, `Read` and `Write`, each if and only if an allocation, the opening of the command's input,
 /// a read of it, or the sink failed. Memory is allocated by commands that create a machine or a heap, and for the tags
 /// and the core file of `decode`. Nothing is reported then. If the error is `Open`, or if it is `Memory` in `decode`,
@@ -41,6 +41,7 @@ pub fn execute<M: RunMemory + ReplaySupport, I: Inputs, W: Sink, E: Sink>(
     requires memory { M.has_failed memory.old ≡ false }
     requires source { (I.Opened.state source.old).has_failed ≡ false }
     requires inputs { I.has_refused inputs.old ≡ false }
+    requires unasked { I.requested inputs.old [] ≡ true }
     requires sink { (W.state sink.old).has_failed ≡ false }
     requires errors { (E.state errors.old).has_failed ≡ false }
     // The command's bytes are written, and the summary says whether there is an error. At `Ok`, so is
@@ -59,9 +60,9 @@ pub fn execute<M: RunMemory + ReplaySupport, I: Inputs, W: Sink, E: Sink>(
     // Opening fails only for a FILE that is given and is not `-`, and for a file of tags.
     ensures open { result ≡ Err Fault.Open → IfSome (effect_of M.replay terminals invocation.entry).input
         (λ asked. OpensFile asked.tags asked.input) }
-    // Unless the last input that was requested is the command's, neither inputs nor source were
-    // used. A command with refused arguments has no input.
-    ensures asked { IsUnasked (effect_of M.replay terminals invocation.entry).input (I.last_asked inputs.new)
+    // The requests are exactly the command's input; with a file of tags, that file and then the input, or that file
+    // alone. If they are not, neither inputs nor source changed. A command with refused arguments has no input.
+    ensures asked { IsUnasked (effect_of M.replay terminals invocation.entry).input (I.requested inputs.new)
         → (inputs.new ≡ inputs.old) × (source.new ≡ source.old) }
     ensures unreported { OnErr result ((E.state errors.new).taken ≡ (E.state errors.old).taken) }
     // Other commands than those that can report write nothing to standard error.

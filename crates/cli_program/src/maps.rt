@@ -1,5 +1,5 @@
 //! `map`: the drawing of a pool at the end of a script.
-ghost use Rattle.std.specs.Prelude.{◌≡◌, ◌≢◌, ◌≤◌, ◌↔◌, ◌⊎◌, false, true, Err, IfErr, IsOk, OnOk};
+ghost use Rattle.std.specs.Prelude.{◌≡◌, ◌≢◌, ◌≤◌, ◌∷◌, ◌↔◌, ◌⊎◌, false, true, Err, IfErr, IsOk, OnOk};
 ghost use Rattle.cc_machine.specs.State.{initial_state};
 ghost use Rattle.cc_syntax.specs.Planning.{pool_of};
 ghost use Rattle.cc_io.specs.Devices.{OutputState};
@@ -47,8 +47,9 @@ pub fn map_file<M: RunMemory, I: Inputs, W: Sink>(
     ensures memory { result ≡ Err Fault.Memory → IsOk (pool_of pool.entry.base.now pool.entry.length.now) }
     ensures open { result ≡ Err Fault.Open → IsFile (file_input file.entry) }
     ensures starved { result ≡ Err Fault.Memory → (W.state sink.new).taken ≡ (W.state sink.old).taken }
-    ensures asked { I.last_asked inputs.new (file_input file.entry) Content.Pool ≡ false → (inputs.new ≡ inputs.old)
-        × (source.new ≡ source.old) }
+    ensures asked { (before : _) → I.requested inputs.old before ≡ true
+        → I.requested inputs.new ((file_input file.entry, Content.Pool) ∷ before) ≡ false
+        → (inputs.new ≡ inputs.old) × (source.new ≡ source.old) }
     ensures unused { ¬ IsOk (pool_of pool.entry.base.now pool.entry.length.now) → (inputs.new ≡ inputs.old)
         × (source.new ≡ source.old) }
     ensures allocates { (result ≡ Err Fault.Memory) ↔ (M.has_failed memory.new ≡ true) }
@@ -96,8 +97,9 @@ fn draw<M: RunMemory, I: Inputs, W: Sink>(
         (λ console. FromInput input.entry console (DrawsRun svg opening.now (initial_state limit))) result }
     ensures open { result ≡ Err Fault.Open → IsFile input.entry }
     ensures starved { result ≡ Err Fault.Memory → (W.state sink.new).taken ≡ (W.state sink.old).taken }
-    ensures asked { I.last_asked inputs.new input.entry Content.Pool ≡ false → (inputs.new ≡ inputs.old)
-        × (source.new ≡ source.old) }
+    ensures asked { (before : _) → I.requested inputs.old before ≡ true
+        → I.requested inputs.new ((input.entry, Content.Pool) ∷ before) ≡ false
+        → (inputs.new ≡ inputs.old) × (source.new ≡ source.old) }
     ensures allocates { (result ≡ Err Fault.Memory) ↔ (M.has_failed memory.new ≡ true) }
     ensures end { IsEnd (I.has_refused inputs.new) (I.Opened.state source.new) (W.state sink.old) (W.state sink.new)
         result }
@@ -138,8 +140,9 @@ fn open_and_draw<M: RunMemory, I: Inputs, W: Sink>(
         (λ console. FromInput input.entry console (DrawsRun svg opening.now machine.old)) result }
     ensures open { result ≡ Err Fault.Open → IsFile input.entry }
     ensures starved { result ≡ Err Fault.Memory → (W.state sink.new).taken ≡ (W.state sink.old).taken }
-    ensures asked { I.last_asked inputs.new input.entry Content.Pool ≡ false → (inputs.new ≡ inputs.old)
-        × (source.new ≡ source.old) }
+    ensures asked { (before : _) → I.requested inputs.old before ≡ true
+        → I.requested inputs.new ((input.entry, Content.Pool) ∷ before) ≡ false
+        → (inputs.new ≡ inputs.old) × (source.new ≡ source.old) }
     ensures allocates { (result ≡ Err Fault.Memory) ↔ (M.has_failed memory.new ≡ true) }
     ensures end { IsEnd (I.has_refused inputs.new) (I.Opened.state source.new) (W.state sink.old) (W.state sink.new)
         result }

@@ -1,5 +1,6 @@
 //! The execution of the program's command line: on given devices, and on those of the process.
-ghost use Rattle.std.specs.Prelude.{◌≡◌, ◌≢◌, ◌↔◌, ◌⊎◌, IfErr, IfOk, MatchResult, OnErr, false, true, List, Option};
+ghost use Rattle.std.specs.Prelude.{◌≡◌, ◌≢◌, ◌↔◌, ◌⊎◌, [], IfErr, IfOk, MatchResult, OnErr};
+ghost use Rattle.std.specs.Prelude.{false, true, List, Option};
 ghost use Rattle.clap.specs.Walk.{texts};
 ghost use Rattle.clap.specs.Words.{App, FailsBy, Row, Text, kind_of, subcommand_of};
 ghost use Rattle.cli.specs.declared.outcome.Ending.TheVariants as ending;
@@ -163,7 +164,7 @@ fn try_on_process<R: AllocGlobal + Files + Input + Print + Eprint, M: RunMemory 
 ///
 /// Nothing but the devices is used.
 ///
-/// Requires: no device has failed.
+/// Requires: no device has failed, and no input was requested.
 /// Errors: clap does not accept the arguments, a text of `replay` is refused, help or the version is requested, or
 /// memory ran out before the command was known. Nothing is read or written then.
 pub fn answer_words<M: RunMemory + ReplaySupport, I: Inputs, W: Sink, E: Sink>(
@@ -178,6 +179,7 @@ pub fn answer_words<M: RunMemory + ReplaySupport, I: Inputs, W: Sink, E: Sink>(
     requires memory { M.has_failed memory.old ≡ false }
     requires source { (I.Opened.state source.old).has_failed ≡ false }
     requires inputs { I.has_refused inputs.old ≡ false }
+    requires unasked { I.requested inputs.old [] ≡ true }
     requires sink { (W.state sink.old).has_failed ≡ false }
     requires errors { (E.state errors.old).has_failed ≡ false }
     // A command line that is accepted ends as its command does on these devices.
@@ -186,7 +188,7 @@ pub fn answer_words<M: RunMemory + ReplaySupport, I: Inputs, W: Sink, E: Sink>(
         (console_of (I.bytes_of inputs.old) (I.Opened.state source.new) (W.state sink.old) (W.state sink.new)
         (E.state errors.old) (E.state errors.new))
         (failures_of (I.has_refused inputs.new) (I.Opened.state source.new) (W.state sink.new) (M.has_failed memory.new)
-        (I.last_asked inputs.new)) end) }
+        (I.requested inputs.new)) end) }
     // The main theorem of the program: from the arguments of `run` and `plan` to the bytes written
     // and the end. If a command line that clap accepts has no result, memory ran out, or the command is `replay`.
     ensures runs_script { (app : App) × IsProgram app × MatchResult result
@@ -195,11 +197,12 @@ pub fn answer_words<M: RunMemory + ReplaySupport, I: Inputs, W: Sink, E: Sink>(
         (console_of (I.bytes_of inputs.old) (I.Opened.state source.new) (W.state sink.old) (W.state sink.new)
         (E.state errors.old) (E.state errors.new))
         (failures_of (I.has_refused inputs.new) (I.Opened.state source.new) (W.state sink.new) (M.has_failed memory.new)
-        (I.last_asked inputs.new)) end) (λ error. is_taken app (texts words.now) ≡ true
+        (I.requested inputs.new)) end) (λ error. is_taken app (texts words.now) ≡ true
         → (M.has_failed memory.new ≡ true) ⊎ FindsReplay (subcommand_of app (texts words.now))) }
+    // Only the command's input is requested, once, and before it the file of its tags, if there is one.
     ensures asked { IfOk result (λ end. (app : App) × IsProgram app × (invocation : InvocationSpec)
         × IsInvocation (subcommand_of app (texts words.now)) invocation
-        × (IsUnasked (effect_of M.replay terminals invocation).input (I.last_asked inputs.new)
+        × (IsUnasked (effect_of M.replay terminals invocation).input (I.requested inputs.new)
         → (inputs.new ≡ inputs.old) × (source.new ≡ source.old))) }
     ensures accepted { IfOk result (λ end. end ≢ ending.Refused) }
     ensures good_texts { IfOk result (λ end. (app : App) × IsProgram app
@@ -267,7 +270,7 @@ fn check_replay_texts<M: ReplaySupport>(
 
 /// Executes a command on these devices, and returns the program's end.
 ///
-/// Requires: the command is one that clap can find; no device has failed.
+/// Requires: the command is one that clap can find; no device has failed, and no input was requested.
 fn answer_invocation<M: RunMemory + ReplaySupport, I: Inputs, W: Sink, E: Sink>(
     memory: &mut M,
     terminals: Terminals,
@@ -281,17 +284,18 @@ fn answer_invocation<M: RunMemory + ReplaySupport, I: Inputs, W: Sink, E: Sink>(
     requires memory { M.has_failed memory.old ≡ false }
     requires source { (I.Opened.state source.old).has_failed ≡ false }
     requires inputs { I.has_refused inputs.old ≡ false }
+    requires unasked { I.requested inputs.old [] ≡ true }
     requires sink { (W.state sink.old).has_failed ≡ false }
     requires errors { (E.state errors.old).has_failed ≡ false }
     ensures accepted { result ≢ ending.Refused }
-    ensures asked { IsUnasked (effect_of M.replay terminals invocation.entry).input (I.last_asked inputs.new)
+    ensures asked { IsUnasked (effect_of M.replay terminals invocation.entry).input (I.requested inputs.new)
         → (inputs.new ≡ inputs.old) × (source.new ≡ source.old) }
     ensures executes { (found : Option (Text × List Row)) → IsInvocation found invocation.entry
         → ExecutesCommand M.replay found terminals
         (console_of (I.bytes_of inputs.old) (I.Opened.state source.new) (W.state sink.old) (W.state sink.new)
         (E.state errors.old) (E.state errors.new))
         (failures_of (I.has_refused inputs.new) (I.Opened.state source.new) (W.state sink.new) (M.has_failed memory.new)
-        (I.last_asked inputs.new)) result }
+        (I.requested inputs.new)) result }
 {
     let result = execute(memory, invocation, terminals, inputs, source, sink, errors);
     ending_of(result)

@@ -1,5 +1,5 @@
 //! How a program executes the command `replay`, if it has it.
-ghost use Rattle.std.specs.Prelude.{◌≡◌, ◌↔◌, Err, IfOk, IfSome, MatchResult, false, true};
+ghost use Rattle.std.specs.Prelude.{◌≡◌, ◌↔◌, [], Err, IfOk, IfSome, MatchResult, false, true};
 ghost use Rattle.clap.specs.Words.{FailsBy, kind_of};
 ghost use Rattle.cc_io.specs.Devices.{OutputState};
 ghost use Rattle.cli.specs.Devices.{IsEnd, OnOutput, console_of};
@@ -36,7 +36,7 @@ pub trait ReplaySupport: Memory {
 
     /// Replays the trace that FILE names, and writes its output.
     ///
-    /// Requires: no device has failed.
+    /// Requires: no device has failed, and no input was requested.
     /// Errors: as the command's effect says.
     fn replay_file<I: Inputs, W: Sink>(
         &mut self,
@@ -49,6 +49,7 @@ pub trait ReplaySupport: Memory {
         requires memory { Self.has_failed self.old ≡ false }
         requires source { (I.Opened.state source.old).has_failed ≡ false }
         requires inputs { I.has_refused inputs.old ≡ false }
+        requires unasked { I.requested inputs.old [] ≡ true }
         requires sink { (W.state sink.old).has_failed ≡ false }
         ensures executes { OnOutput (I.bytes_of inputs.old) (I.Opened.state source.new) (W.state sink.old)
             (W.state sink.new) (replay.effect values.entry file.entry).Does result }
@@ -60,7 +61,7 @@ pub trait ReplaySupport: Memory {
         ensures open { result ≡ Err Fault.Open
             → IfSome (replay.effect values.entry file.entry).input
             (λ asked. OpensFile asked.tags asked.input) }
-        ensures asked { IsUnasked (replay.effect values.entry file.entry).input (I.last_asked inputs.new)
+        ensures asked { IsUnasked (replay.effect values.entry file.entry).input (I.requested inputs.new)
             → (inputs.new ≡ inputs.old) × (source.new ≡ source.old) }
         ensures end { IsEnd (I.has_refused inputs.new) (I.Opened.state source.new) (W.state sink.old)
             (W.state sink.new) result };

@@ -1,5 +1,5 @@
 //! `run` and `plan`: the run of a script on a new machine, and its report.
-ghost use Rattle.std.specs.Prelude.{◌≡◌, ◌≢◌, ◌≤◌, ◌↔◌, [], false, true, Err, IfOk, IsOk, None, OnErr, OnOk};
+ghost use Rattle.std.specs.Prelude.{◌≡◌, ◌≢◌, ◌≤◌, ◌∷◌, ◌↔◌, [], false, true, Err, IfOk, IsOk, None, OnErr, OnOk};
 ghost use Rattle.cc_machine.specs.State.{initial_state};
 ghost use Rattle.cc_syntax.specs.Planning.{plan_opening, pool_of};
 ghost use Rattle.cli.specs.Devices.{FromInput, IsEnd, OnDevices, console_of, traffic_on};
@@ -43,8 +43,9 @@ pub fn run_file<M: RunMemory, I: Inputs, W: Sink, E: Sink>(
         (console_of (I.bytes_of inputs.old) (I.Opened.state source.new) (W.state sink.old) (W.state sink.new)
         (E.state errors.old) (E.state errors.new)) (ReportsRun report [] None (initial_state limit))) result }
     ensures open { result ≡ Err Fault.Open → IsFile (file_input file.entry) }
-    ensures asked { I.last_asked inputs.new (file_input file.entry) Content.Script ≡ false → (inputs.new ≡ inputs.old)
-        × (source.new ≡ source.old) }
+    ensures asked { (before : _) → I.requested inputs.old before ≡ true
+        → I.requested inputs.new ((file_input file.entry, Content.Script) ∷ before) ≡ false
+        → (inputs.new ≡ inputs.old) × (source.new ≡ source.old) }
     ensures allocates { (result ≡ Err Fault.Memory) ↔ (M.has_failed memory.new ≡ true) }
     ensures starved { result ≡ Err Fault.Memory → StarvesRun report [] (initial_state limit) (file_input file.entry)
         (console_of (I.bytes_of inputs.old) (I.Opened.state source.new) (W.state sink.old) (W.state sink.new)
@@ -96,8 +97,9 @@ pub fn plan_file<M: RunMemory, I: Inputs, W: Sink, E: Sink>(
         (console_of (I.bytes_of inputs.old) (I.Opened.state source.new) (W.state sink.old) (W.state sink.new)
         (E.state errors.old) (E.state errors.new))) result }
     ensures open { result ≡ Err Fault.Open → IsFile (file_input file.entry) }
-    ensures asked { I.last_asked inputs.new (file_input file.entry) Content.Script ≡ false → (inputs.new ≡ inputs.old)
-        × (source.new ≡ source.old) }
+    ensures asked { (before : _) → I.requested inputs.old before ≡ true
+        → I.requested inputs.new ((file_input file.entry, Content.Script) ∷ before) ≡ false
+        → (inputs.new ≡ inputs.old) × (source.new ≡ source.old) }
     ensures unused { ¬ IsOk (pool_of pool.entry.base.now pool.entry.length.now) → (inputs.new ≡ inputs.old)
         × (source.new ≡ source.old) }
     ensures allocates { (result ≡ Err Fault.Memory) ↔ (M.has_failed memory.new ≡ true) }
@@ -157,8 +159,9 @@ fn run<M: RunMemory, I: Inputs, W: Sink, E: Sink>(
         (E.state errors.old) (E.state errors.new)) (ReportsRun report opening.now pool (initial_state limit)))
         result }
     ensures open { result ≡ Err Fault.Open → IsFile input.entry }
-    ensures asked { I.last_asked inputs.new input.entry Content.Script ≡ false → (inputs.new ≡ inputs.old)
-        × (source.new ≡ source.old) }
+    ensures asked { (before : _) → I.requested inputs.old before ≡ true
+        → I.requested inputs.new ((input.entry, Content.Script) ∷ before) ≡ false
+        → (inputs.new ≡ inputs.old) × (source.new ≡ source.old) }
     ensures allocates { (result ≡ Err Fault.Memory) ↔ (M.has_failed memory.new ≡ true) }
     ensures starved { result ≡ Err Fault.Memory → StarvesRun report opening.now (initial_state limit) input.entry
         (console_of (I.bytes_of inputs.old) (I.Opened.state source.new) (W.state sink.old) (W.state sink.new)
@@ -208,8 +211,9 @@ fn open_and_run<M: RunMemory, I: Inputs, W: Sink, E: Sink>(
         (E.state errors.old) (E.state errors.new)) (ReportsRun report opening.now pool machine.old))
         result }
     ensures open { result ≡ Err Fault.Open → IsFile input.entry }
-    ensures asked { I.last_asked inputs.new input.entry Content.Script ≡ false → (inputs.new ≡ inputs.old)
-        × (source.new ≡ source.old) }
+    ensures asked { (before : _) → I.requested inputs.old before ≡ true
+        → I.requested inputs.new ((input.entry, Content.Script) ∷ before) ≡ false
+        → (inputs.new ≡ inputs.old) × (source.new ≡ source.old) }
     ensures allocates { (result ≡ Err Fault.Memory) ↔ (M.has_failed memory.new ≡ true) }
     ensures starved { result ≡ Err Fault.Memory → StarvesRun report opening.now machine.old input.entry
         (console_of (I.bytes_of inputs.old) (I.Opened.state source.new) (W.state sink.old) (W.state sink.new)

@@ -1,5 +1,5 @@
 //! `replay`: the call for the trace of an allocator.
-ghost use Rattle.std.specs.Prelude.{◌≡◌, ◌↔◌, Some, false, true, Err, IsOk};
+ghost use Rattle.std.specs.Prelude.{◌≡◌, ◌↔◌, ◌∷◌, Some, false, true, Err, IsOk};
 ghost use Rattle.cc_heap.specs.declared.reallocation.Reallocation.TheVariants.{Move};
 ghost use Rattle.cli.specs.Devices.{FromInput, IsEnd, OnOutput};
 ghost use Rattle.cli.specs.Input.{IsFile, file_input, trace_content};
@@ -53,7 +53,8 @@ pub fn replay_file<M: TraceMemory, I: Inputs, W: Sink>(
     ensures open { result ≡ Err Fault.Open → IsFile (file_input file.entry) }
     ensures starved { ¬ IsStreaming values.entry.output → result ≡ Err Fault.Memory
         → (W.state sink.new).taken ≡ (W.state sink.old).taken }
-    ensures asked { I.last_asked inputs.new (file_input file.entry) (trace_content values.entry.output) ≡ false
+    ensures asked { (before : _) → I.requested inputs.old before ≡ true
+        → I.requested inputs.new ((file_input file.entry, trace_content values.entry.output) ∷ before) ≡ false
         → (inputs.new ≡ inputs.old) × (source.new ≡ source.old) }
     ensures unused { ¬ IsOk (replay_in values.entry) → (inputs.new ≡ inputs.old)
         × (source.new ≡ source.old) }

@@ -1,5 +1,5 @@
 //! `decode`, `annotate` and `round --list`: the call for the words or the lengths of an input.
-ghost use Rattle.std.specs.Prelude.{◌≡◌, ◌≢◌, ◌↔◌, IfOk, IfSome, IsSome, IsTrue, false, true, Err, OnErr};
+ghost use Rattle.std.specs.Prelude.{◌≡◌, ◌≢◌, ◌↔◌, ◌∷◌, ◌++◌, IfOk, IfSome, IsSome, IsTrue, false, true, Err, OnErr};
 ghost use Rattle.cli.specs.Devices.{FromInput, IsEnd, OnDevices, OnOutput, console_of};
 ghost use Rattle.cli.specs.Input.{AreUnasked, IsFile, OpensFile, file_input};
 ghost use Rattle.cli_words.specs.DecodeOptions.{options_of, part_of, search_of};
@@ -50,7 +50,9 @@ pub fn decode_file<M: Memory, I: Inputs, W: Sink, E: Sink>(
     ensures open { result ≡ Err Fault.Open → OpensFile values.entry.tags (file_input file.entry) }
     ensures allocates { (result ≡ Err Fault.Memory) ↔ (M.has_failed memory.new ≡ true) }
     ensures starved { result ≡ Err Fault.Memory → IsSome values.entry.tags × (sink.new ≡ sink.old) }
-    ensures asked { AreUnasked values.entry.tags (file_input file.entry) Content.Words (I.last_asked inputs.new)
+    ensures asked { (before : _) → I.requested inputs.old before ≡ true
+        → AreUnasked values.entry.tags (file_input file.entry) Content.Words
+        (λ requests. I.requested inputs.new (requests ++ before))
         → (inputs.new ≡ inputs.old) × (source.new ≡ source.old) }
     ensures end { IsEnd (I.has_refused inputs.new) (I.Opened.state source.new) (W.state sink.old) (W.state sink.new)
         result }
@@ -96,7 +98,8 @@ pub fn decode_core_file<M: Memory, I: Inputs, W: Sink>(
     ensures open { result ≡ Err Fault.Open → IsFile (file_input file.entry) }
     ensures allocates { (result ≡ Err Fault.Memory) ↔ (M.has_failed memory.new ≡ true) }
     ensures starved { result ≡ Err Fault.Memory → sink.new ≡ sink.old }
-    ensures asked { I.last_asked inputs.new (file_input file.entry) Content.Words ≡ false
+    ensures asked { (before : _) → I.requested inputs.old before ≡ true
+        → I.requested inputs.new ((file_input file.entry, Content.Words) ∷ before) ≡ false
         → (inputs.new ≡ inputs.old) × (source.new ≡ source.old) }
     ensures end { IsEnd (I.has_refused inputs.new) (I.Opened.state source.new) (W.state sink.old) (W.state sink.new)
         result }
@@ -130,7 +133,8 @@ fn read_input<M: Memory, I: Inputs>(
     ensures read { (result ≡ Err Fault.Read) ↔ ((I.Opened.state source.new).has_failed ≡ true) }
     ensures allocates { (result ≡ Err Fault.Memory) ↔ (M.has_failed memory.new ≡ true) }
     ensures unwritten { result ≢ Err Fault.Write }
-    ensures asked { I.last_asked inputs.new input.entry Content.Words ≡ true }
+    ensures asked { (before : _) → I.requested inputs.old before ≡ true
+        → I.requested inputs.new ((input.entry, Content.Words) ∷ before) ≡ true }
 {
     match inputs.open(input, Content::Words, source) {
         Ok(()) => memory.read_all(source),
@@ -163,7 +167,8 @@ fn list_file<I: Inputs, W: Sink, E: Sink>(
     ensures unreported { OnErr result (errors.new ≡ errors.old) }
     ensures open { result ≡ Err Fault.Open → IsFile (file_input file.entry) }
     ensures memory { result ≢ Err Fault.Memory }
-    ensures asked { I.last_asked inputs.new (file_input file.entry) Content.Words ≡ false
+    ensures asked { (before : _) → I.requested inputs.old before ≡ true
+        → I.requested inputs.new ((file_input file.entry, Content.Words) ∷ before) ≡ false
         → (inputs.new ≡ inputs.old) × (source.new ≡ source.old) }
     ensures end { IsEnd (I.has_refused inputs.new) (I.Opened.state source.new) (W.state sink.old) (W.state sink.new)
         result }
@@ -198,8 +203,9 @@ fn list_words<I: Inputs, W: Sink>(
         (λ console. FromInput input.entry console (ListsWords part options.entry)) result }
     ensures open { result ≡ Err Fault.Open → IsFile input.entry }
     ensures memory { result ≢ Err Fault.Memory }
-    ensures asked { I.last_asked inputs.new input.entry Content.Words ≡ false → (inputs.new ≡ inputs.old)
-        × (source.new ≡ source.old) }
+    ensures asked { (before : _) → I.requested inputs.old before ≡ true
+        → I.requested inputs.new ((input.entry, Content.Words) ∷ before) ≡ false
+        → (inputs.new ≡ inputs.old) × (source.new ≡ source.old) }
     ensures end { IsEnd (I.has_refused inputs.new) (I.Opened.state source.new) (W.state sink.old) (W.state sink.new)
         result }
 {
@@ -230,7 +236,8 @@ pub fn annotate_file<I: Inputs, W: Sink>(
         (λ console. FromInput (file_input file.entry) console AnnotatesWords) result }
     ensures open { result ≡ Err Fault.Open → IsFile (file_input file.entry) }
     ensures memory { result ≢ Err Fault.Memory }
-    ensures asked { I.last_asked inputs.new (file_input file.entry) Content.Words ≡ false
+    ensures asked { (before : _) → I.requested inputs.old before ≡ true
+        → I.requested inputs.new ((file_input file.entry, Content.Words) ∷ before) ≡ false
         → (inputs.new ≡ inputs.old) × (source.new ≡ source.old) }
     ensures end { IsEnd (I.has_refused inputs.new) (I.Opened.state source.new) (W.state sink.old) (W.state sink.new)
         result }
@@ -266,7 +273,8 @@ pub fn round_file<I: Inputs, W: Sink, E: Sink>(
     ensures unreported { OnErr result (errors.new ≡ errors.old) }
     ensures open { result ≡ Err Fault.Open → IsFile (file_input file.entry) }
     ensures memory { result ≢ Err Fault.Memory }
-    ensures asked { I.last_asked inputs.new (file_input file.entry) Content.Words ≡ false
+    ensures asked { (before : _) → I.requested inputs.old before ≡ true
+        → I.requested inputs.new ((file_input file.entry, Content.Words) ∷ before) ≡ false
         → (inputs.new ≡ inputs.old) × (source.new ≡ source.old) }
     ensures end { IsEnd (I.has_refused inputs.new) (I.Opened.state source.new) (W.state sink.old) (W.state sink.new)
         result }
@@ -298,8 +306,9 @@ fn round_input<I: Inputs, W: Sink>(
         (λ console. FromInput input.entry console (SeesLengths base bare.new)) result }
     ensures open { result ≡ Err Fault.Open → IsFile input.entry }
     ensures memory { result ≢ Err Fault.Memory }
-    ensures asked { I.last_asked inputs.new input.entry Content.Words ≡ false → (inputs.new ≡ inputs.old)
-        × (source.new ≡ source.old) }
+    ensures asked { (before : _) → I.requested inputs.old before ≡ true
+        → I.requested inputs.new ((input.entry, Content.Words) ∷ before) ≡ false
+        → (inputs.new ≡ inputs.old) × (source.new ≡ source.old) }
     ensures end { IsEnd (I.has_refused inputs.new) (I.Opened.state source.new) (W.state sink.old) (W.state sink.new)
         result }
 {

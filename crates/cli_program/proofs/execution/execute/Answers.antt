@@ -61,13 +61,13 @@ returns-in-Plan-clause-open g c =
 
 pub returns-in-Plan-clause-asked : goal.returns-in-Plan-clause-asked
 returns-in-Plan-clause-asked g c =
-    of_equal (λ (effect : Effect). IsUnasked effect.input (g.I.Inputs.last_asked c.plan_file.new.inputs)
+    of_equal (λ (effect : Effect). IsUnasked effect.input (g.I.Inputs.requested c.plan_file.new.inputs)
     → ((c.plan_file.new.inputs ≡ c.args.inputs.now) × (c.plan_file.new.source ≡ c.args.source.now)))
     g.M.ReplaySupport.replay c.args.terminals _ _ c.in-Plan.is
     (asks (pool_of c.in-Plan.pool.base.now c.in-Plan.pool.length.now) (λ numbers. script_run (report_of c.in-Plan.stats c.args.terminals) (Some numbers.1)
     (pool_script c.in-Plan.limit c.in-Plan.align (file_input c.in-Plan.file) numbers))
-    (g.I.Inputs.last_asked c.plan_file.new.inputs) ((c.plan_file.new.inputs ≡ c.args.inputs.now) × (c.plan_file.new.source ≡ c.args.source.now)) c.plan_file.ensures.unused
-    (λ values. c.plan_file.ensures.asked))
+    (g.I.Inputs.requested c.plan_file.new.inputs) ((c.plan_file.new.inputs ≡ c.args.inputs.now) × (c.plan_file.new.source ≡ c.args.source.now)) c.plan_file.ensures.unused
+    (λ values. c.plan_file.ensures.asked [] c.requires.unasked))
 
 pub returns-in-Plan-clause-silent : goal.returns-in-Plan-clause-silent
 returns-in-Plan-clause-silent g c =
@@ -108,12 +108,12 @@ returns-in-Map-clause-open g c =
 
 pub returns-in-Map-clause-asked : goal.returns-in-Map-clause-asked
 returns-in-Map-clause-asked g c =
-    of_equal (λ (effect : Effect). IsUnasked effect.input (g.I.Inputs.last_asked c.map_file.new.inputs) → ((c.map_file.new.inputs ≡ c.args.inputs.now) × (c.map_file.new.source ≡ c.args.source.now)))
+    of_equal (λ (effect : Effect). IsUnasked effect.input (g.I.Inputs.requested c.map_file.new.inputs) → ((c.map_file.new.inputs ≡ c.args.inputs.now) × (c.map_file.new.source ≡ c.args.source.now)))
     g.M.ReplaySupport.replay c.args.terminals _ _ c.in-Map.is
     (asks (pool_of c.in-Map.pool.base.now c.in-Map.pool.length.now) (λ numbers. reads (file_input c.in-Map.file) content.Pool
     (DrawsRun c.in-Map.svg (plan_opening numbers.0 numbers.1 c.in-Map.align) (initial_state c.in-Map.limit)) WritesNothing ⊥)
-    (g.I.Inputs.last_asked c.map_file.new.inputs) ((c.map_file.new.inputs ≡ c.args.inputs.now) × (c.map_file.new.source ≡ c.args.source.now)) c.map_file.ensures.unused
-    (λ values. c.map_file.ensures.asked))
+    (g.I.Inputs.requested c.map_file.new.inputs) ((c.map_file.new.inputs ≡ c.args.inputs.now) × (c.map_file.new.source ≡ c.args.source.now)) c.map_file.ensures.unused
+    (λ values. c.map_file.ensures.asked [] c.requires.unasked))
 
 pub returns-in-Replay-clause-executes : goal.returns-in-Replay-clause-executes
 returns-in-Replay-clause-executes g c =

@@ -12,6 +12,7 @@ answer_invocation-requires g c = record {
   memory = c.in-Ok.ensures.fails;
   source = c.requires.source;
   inputs = c.requires.inputs;
+  unasked = c.requires.unasked;
   sink = c.requires.sink;
   errors = c.requires.errors;
 }
@@ -28,7 +29,7 @@ returns-in-Ok-clause-runs_script g c =
     let console : Console = console_of (g.I.Inputs.bytes_of c.args.inputs.now) (g.I.Opened.Source.state c.answer_invocation.new.source) (g.W.Sink.state c.args.sink.now)
     (g.W.Sink.state c.answer_invocation.new.sink) (g.E.Sink.state c.args.errors.now) (g.E.Sink.state c.answer_invocation.new.errors) in
     let failures : Failures = failures_of (g.I.Inputs.has_refused c.answer_invocation.new.inputs) (g.I.Opened.Source.state c.answer_invocation.new.source)
-    (g.W.Sink.state c.answer_invocation.new.sink) (g.M.Memory.has_failed c.answer_invocation.new.memory) (g.I.Inputs.last_asked c.answer_invocation.new.inputs) in
+    (g.W.Sink.state c.answer_invocation.new.sink) (g.M.Memory.has_failed c.answer_invocation.new.memory) (g.I.Inputs.requested c.answer_invocation.new.inputs) in
     (told.0, told.1, (done.invocation, done.is_invocation, runs_script g.M.ReplaySupport.replay done.invocation c.args.terminals console failures c.answer_invocation.result done.executed))
 
 pub returns-in-Err-clause-runs_script : goal.returns-in-Err-clause-runs_script

@@ -1,4 +1,4 @@
-use Rattle.std.specs.Prelude.{◌≡◌}
+use Rattle.std.specs.Prelude.{◌≡◌, []}
 use Rattle.cheri_cap.specs.Replaying.{trace_replay}
 use Rattle.cli.specs.Devices.{console_of}
 use Rattle.cli_program.proofs.ExecutionLemmas.{asks, does, opens, starves_if}
@@ -24,5 +24,5 @@ returns-clause-open g c = λ refused.
 
 pub returns-clause-asked : goal.returns-clause-asked
 returns-clause-asked g c =
-    asks (replay_in c.args.values) (trace_replay c.args.values c.args.file) (g.I.Inputs.last_asked c.replay_file.new.inputs)
-    ((c.replay_file.new.inputs ≡ c.args.inputs.now) × (c.replay_file.new.source ≡ c.args.source.now)) c.replay_file.ensures.unused (λ values. c.replay_file.ensures.asked)
+    asks (replay_in c.args.values) (trace_replay c.args.values c.args.file) (g.I.Inputs.requested c.replay_file.new.inputs)
+    ((c.replay_file.new.inputs ≡ c.args.inputs.now) × (c.replay_file.new.source ≡ c.args.source.now)) c.replay_file.ensures.unused (λ values. c.replay_file.ensures.asked [] c.requires.unasked)
