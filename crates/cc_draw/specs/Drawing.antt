@@ -79,8 +79,8 @@ abbrev pub object_text : Layout → (number : ℕ) → Span → List ℕ
 object_text layout number span =
     parts_text layout.width (first_cell layout.start layout.size span) (end_cell layout.start layout.size span) number span (row_count layout) 0
 
--- `is_in` holds if the two states are equal: an object in the second is drawn in the layer of the
--- first.
+-- `is_in` holds if the two states are equal: an object in the second counts as one in the first, and is
+-- drawn in its layer.
 abbrev pub is_in : ObjectState → ObjectState → Bool
 is_in Live state = is_live state
 is_in Freed state = is_freed state

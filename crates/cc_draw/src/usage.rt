@@ -2,9 +2,9 @@
 ghost use Rattle.std.specs.Prelude.{◌≡◌, ◌≤◌, ◌<◌, ◌+◌, ◌^◌, IfOk, count_by, length, max, option_map, unwrap_or};
 ghost use Rattle.std.specs.List.Sorted.{IsNonDecreasingBy, IsPermutation};
 ghost use Rattle.cc_bounds.specs.Span.{from_zero};
-ghost use Rattle.cc_plan.specs.Plan.{plan_spans, is_freed, is_held};
-ghost use Rattle.cc_draw.specs.Usage.{IsUsage, asked_bytes_of, largest_of, highest_top, hole, holes, is_swept};
-ghost use Rattle.cc_plan.specs.PlannerState.{is_live};
+ghost use Rattle.cc_plan.specs.Plan.{plan_spans, is_held};
+ghost use Rattle.cc_draw.specs.Drawing.{is_in};
+ghost use Rattle.cc_draw.specs.Usage.{IsUsage, asked_bytes_of, largest_of, highest_top, hole, holes};
 
 use cc_bounds::Span;
 use cc_cap::Cap;
@@ -56,9 +56,9 @@ pub fn usage_of<P: Placer>(
         slots,
         limit: planner.limit(),
         made: objects.len(),
-        live: live_count(objects),
-        quarantined: freed_count(objects),
-        swept: swept_count(objects),
+        live: count_in(objects, ObjectState::Live),
+        quarantined: count_in(objects, ObjectState::Freed),
+        swept: count_in(objects, ObjectState::Swept),
         asked: asked_bytes(objects),
         held: planner.held_bytes(),
         pool: pool.top - u128::from(pool.base),
@@ -80,31 +80,13 @@ pub(crate) fn pool_span(pool: Option<Cap>) -> Span
     }
 }
 
-fn live_count(objects: &[PlannedObject]) -> usize
-    ensures { result ≡ count_by (λ object. is_live object.state) objects.now }
+/// Returns the number of objects in this state.
+fn count_in(objects: &[PlannedObject], state: ObjectState) -> usize
+    ensures { result ≡ count_by (λ object. is_in state object.state) objects.now }
 {
     objects
         .iter()
-        .filter(|object| matches!(object.state(), ObjectState::Live))
-        .count()
-}
-
-/// Returns the number of objects that are freed and not swept.
-fn freed_count(objects: &[PlannedObject]) -> usize
-    ensures { result ≡ count_by (λ object. is_freed object.state) objects.now }
-{
-    objects
-        .iter()
-        .filter(|object| matches!(object.state(), ObjectState::Freed))
-        .count()
-}
-
-fn swept_count(objects: &[PlannedObject]) -> usize
-    ensures { result ≡ count_by (λ object. is_swept object.state) objects.now }
-{
-    objects
-        .iter()
-        .filter(|object| matches!(object.state(), ObjectState::Swept))
+        .filter(|object| object.state() == state)
         .count()
 }
 
