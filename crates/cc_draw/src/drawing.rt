@@ -2,7 +2,7 @@
 ghost use Rattle.std.specs.Prelude.{◌≡◌, ◌<◌, ◌≤◌, ◌+◌, ◌-◌, ◌*◌, ◌^◌, ◌++◌, [], Err, false, IfOk, OnErr, length, min};
 ghost use Rattle.cc_io.specs.CommandOutput.{WritesAnswer};
 ghost use Rattle.cc_io.specs.Devices.{SendsBytes, WritesBytes};
-ghost use Rattle.cc_draw.specs.Drawing.{IsDrawing, bounds_line, drawing_text, ground_text, head_text, is_in};
+ghost use Rattle.cc_draw.specs.Drawing.{IsDrawing, bounds_line, drawing_text, ground_text, head_text};
 ghost use Rattle.cc_draw.specs.Drawing.{key_text, laid_out_text, layer_text, layout_for, mark_count, mark_text};
 ghost use Rattle.cc_draw.specs.Drawing.{marks_text, object_text, rectangle_text, row_count, rows_text, start_text};
 
@@ -311,25 +311,13 @@ fn write_objects<W: Sink>(
             Ok(()) => {}
             Err(Failed) => return Err(Failed),
         }
-        if is_in(state, object.state()) {
+        if object.state() == state {
             push_object(&mut page, layout, number, &object.span());
         }
         number += 1;
         rest = after;
     }
     write_all(sink, page.bytes())
-}
-
-/// Returns whether an object in the state `other` is drawn in the layer of `state`, that is,
-/// whether the two are equal.
-fn is_in(state: ObjectState, other: ObjectState) -> bool
-    ensures { result ≡ is_in state other }
-{
-    match state {
-        ObjectState::Live => matches!(other, ObjectState::Live),
-        ObjectState::Freed => matches!(other, ObjectState::Freed),
-        ObjectState::Swept => matches!(other, ObjectState::Swept),
-    }
 }
 
 /// Appends the rectangles of an object: one in each row that has a cell of it.

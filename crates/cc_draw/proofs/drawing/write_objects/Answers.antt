@@ -7,7 +7,7 @@ use Rattle.cc_draw.specs.Drawing.{is_in, layer_text, object_text}
 use Rattle.cc_draw.proofs.DrawingLemmas.{layer_drawn, layer_left_out}
 use Rattle.cc_draw.proofs.WritingLemmas.{on_err_weaker, on_ok_weaker, writing_last, writing_passes, writing_same, writing_stops, writing_stops_last}
 use Rattle.cc_draw.proofs.drawing.write_objects.Goals as goal
-use Rattle.cc_draw.proofs.drawing.write_objects.Goals.{then-is_in, else-is_in}
+use Rattle.cc_draw.proofs.drawing.write_objects.Goals.{then-eq, else-eq}
 
 pub returns-in-Err : goal.returns-in-Err
 returns-in-Err g c = record {
@@ -22,8 +22,8 @@ objects-preserved g c =
     let parts : c.objects.rest.now ≡ c.in-Some.object.now ∷ c.in-Some.after.now = search rules in
     let size : length c.objects.rest.now ≡ length (c.in-Some.object.now ∷ c.in-Some.after.now) = ap (λ (l : List PlannedObject). length l) parts in
     let begun = writing_passes _ _ _ c.objects.page _ _ _ kept.writes c.in-Ok.ensures.ok in
-    elim c.if-is_in.branch [
-      | then-is_in w ↦
+    elim c.if-eq.branch [
+      | then-eq w ↦
           let drawn : is_in c.args.state c.in-Some.object.now.state ≡ true = search rules in
           let next = layer_drawn c.args.layout.now c.args.state c.objects.number c.in-Some.object.now c.objects.rest.now c.in-Some.after.now parts drawn in
           let later : List ℕ = layer_text c.args.layout.now c.args.state (c.objects.number + 1) c.in-Some.after.now in
@@ -37,7 +37,7 @@ objects-preserved g c =
             works = search rules;
             number = omega (arith, kept.number, size);
           })
-      | else-is_in w ↦
+      | else-eq w ↦
           let other : is_in c.args.state c.in-Some.object.now.state ≡ false = search rules in
           let next = layer_left_out c.args.layout.now c.args.state c.objects.number c.in-Some.object.now c.objects.rest.now c.in-Some.after.now parts other in
           rw w.page-is
