@@ -8,7 +8,7 @@ ghost use Rattle.cc_draw.specs.Cells.{cell_bytes, cell_count};
 use cc_bounds::Span;
 
 /// The maximum number of cells of a drawing.
-const MOST_CELLS: u128 = 16_384;
+const MOST_CELLS: u32 = 16_384;
 
 /// The number of cells of a full row.
 pub(crate) const ROW: u32 = 1024;
@@ -38,9 +38,7 @@ impl Layout {
         ensures cells { result.cells ≤ 16384 }
         ensures width { result.width ≤ 1024 }
     {
-        let bytes = pool.len();
-        let size = cell_size(bytes);
-        let cells = cell_count(bytes, size);
+        let (size, cells) = cells_for(pool.len(), MOST_CELLS);
         Layout {
             start: u128::from(pool.base),
             size,
@@ -59,24 +57,18 @@ impl Layout {
     }
 }
 
-/// Returns the number of bytes of a cell: the smallest number, at least 1, with which 16,384 cells
-/// cover `bytes` bytes.
-fn cell_size(bytes: u128) -> u128
-    requires { bytes ≤ 2 ^ 64 }
-    ensures value { result ≡ cell_bytes 16384 bytes }
-    ensures fits { result ≤ 2 ^ 50 }
+/// Returns the number of bytes of a cell, and the number of cells. The first is the smallest, at least
+/// 1, with which `most` cells cover `bytes` bytes. The last cell may reach past their end.
+///
+/// Requires: `most > 0`.
+pub(crate) fn cells_for(bytes: u128, most: u32) -> (u128, u32)
+    requires { 0 < most }
+    ensures size { result.0 ≡ cell_bytes most bytes }
+    ensures count { result.1 ≡ cell_count most bytes }
+    ensures few { result.1 ≤ most }
 {
-    bytes.div_ceil(MOST_CELLS).max(1)
-}
-
-/// Returns the number of cells of this size that cover the bytes. The last may reach past their
-/// end.
-fn cell_count(bytes: u128, size: u128) -> u32
-    requires { size ≡ cell_bytes 16384 bytes }
-    ensures value { result ≡ cell_count 16384 bytes }
-    ensures few { result ≤ 16384 }
-{
-    bytes.div_ceil(size) as u32
+    let size = bytes.div_ceil(u128::from(most)).max(1);
+    (size, bytes.div_ceil(size) as u32)
 }
 
 /// Returns the width of each cell in units of the drawing. The fewer cells there are, the wider

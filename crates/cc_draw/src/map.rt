@@ -5,8 +5,8 @@ ghost use Rattle.std.specs.Int.{div_ceil};
 ghost use Rattle.cc_io.specs.CommandOutput.{WritesAnswer};
 ghost use Rattle.cc_draw.specs.Map.{AreMapRows, HoldsByte, IsMap, IsMapOf, IsMapRow, TellsCell, map_row_text};
 ghost use Rattle.cc_bounds.specs.Span.{SharesByte};
-ghost use Rattle.cc_draw.specs.Cells.{cell_bytes, cell_count};
 
+use crate::layout::cells_for;
 use crate::usage::pool_span;
 use cc_bounds::Span;
 use cc_io::{IoError, Line, MOST_TEXT, Sink, Summary, Text, end_with_hexadecimal, write_and_flush};
@@ -14,7 +14,7 @@ use cc_placer::Placer;
 use cc_plan::{ObjectState, PlannedObject, Planner};
 
 /// The maximum number of cells of a map.
-const MOST_CELLS: u128 = 1024;
+const MOST_CELLS: u32 = 1024;
 
 /// The number of cells in a row.
 const CELLS: usize = 64;
@@ -67,36 +67,14 @@ fn push_map(text: &mut Text, objects: &[PlannedObject], pool: &Span)
     requires fits { pool.now.top ≤ 2 ^ 64 }
     ensures { IsMapOf objects.now pool.now text.new }
 {
-    let bytes = pool.len();
-    let size = cell_size(bytes);
-    let cells = cell_count(bytes, size);
+    let (size, cells) = cells_for(pool.len(), MOST_CELLS);
     end_with_hexadecimal(
         text,
         b"cells of ",
         size,
         b" bytes: # live, ~ quarantined, * both, . free",
     );
-    push_rows(text, objects, u128::from(pool.base), size, cells);
-}
-
-/// Returns the number of bytes of a cell: the smallest number, at least 1, with which 1,024 cells
-/// cover `bytes` bytes.
-fn cell_size(bytes: u128) -> u128
-    requires { bytes ≤ 2 ^ 64 }
-    ensures value { result ≡ cell_bytes 1024 bytes }
-    ensures fits { result ≤ 2 ^ 54 }
-{
-    bytes.div_ceil(MOST_CELLS).max(1)
-}
-
-/// Returns the number of cells of this size that cover the bytes. The last may reach past their
-/// end.
-fn cell_count(bytes: u128, size: u128) -> usize
-    requires { size ≡ cell_bytes 1024 bytes }
-    ensures value { result ≡ cell_count 1024 bytes }
-    ensures few { result ≤ 1024 }
-{
-    bytes.div_ceil(size) as usize
+    push_rows(text, objects, u128::from(pool.base), size, cells as usize);
 }
 
 /// Appends the rows of these cells, which follow one another from `start`.

@@ -10,10 +10,10 @@ returns c =
     let told = c.push_rows.ensures in
     let objects = c.args.objects.now in
     let bytes : ℕ = length_of c.args.pool.now in
-    let size : ℕ = c.cell_size-size.result in
-    let cells : ℕ = c.cell_count-cells.result in
-    let size_is : size ≡ cell_bytes 1024 bytes = c.cell_size-size.ensures.value ∙ ap (cell_bytes 1024) c.len-bytes.ensures in
-    let cells_is : cells ≡ cell_count 1024 bytes = c.cell_count-cells.ensures.value ∙ ap (cell_count 1024) c.len-bytes.ensures in
+    let size : ℕ = c.cells_for-size.result.0 in
+    let cells : ℕ = c.cells_for-size.result.1 in
+    let size_is : size ≡ cell_bytes 1024 bytes = c.cells_for-size.ensures.size ∙ ap (cell_bytes 1024) c.len.ensures in
+    let cells_is : cells ≡ cell_count 1024 bytes = c.cells_for-size.ensures.count ∙ ap (cell_count 1024) c.len.ensures in
     record {
       rows = told.0;
       are_rows = subst (λ (n : ℕ). AreMapRows objects n (div_ceil (cell_count 1024 bytes) 64) c.args.pool.now.base (cell_count 1024 bytes) told.0) size_is
