@@ -44,10 +44,8 @@ pub fn show_drawing<P: Placer, W: Sink>(
     ensures shown { WritesAnswer (IsDrawing planner.now) (W.state sink.old) (W.state sink.new) result }
     ensures any_error { IfOk result (λ summary. summary.any_error ≡ false) }
 {
-    match send_drawing(planner.objects(), &pool_span(planner.pool()), sink) {
-        Ok(()) => Ok(Summary { any_error: false }),
-        Err(error) => Err(error),
-    }
+    send_drawing(planner.objects(), &pool_span(planner.pool()), sink)?;
+    Ok(Summary { any_error: false })
 }
 
 /// Writes the drawing of these objects in this pool, and flushes the sink.

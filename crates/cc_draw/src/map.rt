@@ -41,21 +41,9 @@ pub fn show_map<P: Placer, W: Sink>(planner: &Planner<P>, sink: &mut W) -> Resul
     ensures any_error { IfOk result (λ summary. summary.any_error ≡ false) }
 {
     let mut text = Text::new();
-    push_map_of_planner(&mut text, planner);
-    match write_and_flush(&text, sink) {
-        Ok(()) => Ok(Summary { any_error: false }),
-        Err(error) => Err(error),
-    }
-}
-
-/// Appends the map of a planner's pool.
-///
-/// Requires: `text` is empty.
-fn push_map_of_planner<P: Placer>(text: &mut Text, planner: &Planner<P>)
-    requires { text.old ≡ [] }
-    ensures { IsMap planner.now text.new }
-{
-    push_map(text, planner.objects(), &pool_span(planner.pool()));
+    push_map(&mut text, planner.objects(), &pool_span(planner.pool()));
+    write_and_flush(&text, sink)?;
+    Ok(Summary { any_error: false })
 }
 
 /// Appends the map of these objects in this pool.
