@@ -6,10 +6,10 @@ ghost use Rattle.cc_explain.specs.Explanation.{IsExplanation, IsWordExplanation}
 
 use crate::explained_steps::{push_fields, push_mantissas, push_window_lines};
 use crate::picture::{push_picture, rows_of};
+use crate::showing::write_answer;
 use crate::steps::decoding_steps;
 use cc_cap::Decoded;
-use cc_io::{IoError, Sink, Summary, Text, push_refusal, read_typed_word, write_and_flush};
-use cc_word::Refusal;
+use cc_io::{IoError, Sink, Summary, Text, digits_in};
 
 /// Writes how a word is decoded: its fields, each step with its numbers, the bounds, whether the
 /// word is canonical and if not why, and a picture of its window. Flushes the sink once after the
@@ -25,29 +25,7 @@ pub fn explain_word<W: Sink>(text: &[u8], sink: &mut W) -> Result<Summary, IoErr
     ensures shown { WritesAnswer (IsExplanation text.now) (W.state sink.old) (W.state sink.new) result }
     ensures any_error { IfOk result (λ summary. IsTrue summary.any_error ↔ (¬ IsTypedWord text.now)) }
 {
-    let mut answer = Text::new();
-    let summary = push_explanation(&mut answer, text);
-    write_and_flush(&answer, sink)?;
-    Ok(summary)
-}
-
-/// Appends the explanation of the word, or the refusal of a string that is not a word. The summary
-/// reports an error if and only if the string is not a word.
-fn push_explanation(answer: &mut Text, text: &[u8]) -> Summary
-    requires { answer.old ≡ [] }
-    ensures explanation { IsExplanation text.now answer.new }
-    ensures any_error { IsTrue result.any_error ↔ (¬ IsTypedWord text.now) }
-{
-    match read_typed_word(text) {
-        Some(word) => {
-            push_explained_word(answer, word);
-            Summary { any_error: false }
-        }
-        None => {
-            push_refusal(answer, Refusal::Syntax);
-            Summary { any_error: true }
-        }
-    }
+    write_answer(digits_in(text), sink, push_explained_word)
 }
 
 /// Puts the explanation of a word into an empty text: its fields, the steps of decoding it, its bounds, whether it is

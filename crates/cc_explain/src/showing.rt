@@ -1,7 +1,7 @@
-//! The output of `show`: the listing of a word.
+//! The output of `show`, the listing of a word, and the function that writes it, an explanation or a drawing.
 ghost use Rattle.std.specs.Prelude.{◌≡◌, ◌↔◌, [], false, IfOk, IsTrue};
 ghost use Rattle.cc_word.specs.WordText.{IsWordText};
-ghost use Rattle.cc_io.specs.CommandOutput.{WritesAnswer};
+ghost use Rattle.cc_io.specs.CommandOutput.{AnswersText, WritesAnswer};
 ghost use Rattle.cc_explain.specs.Listing.{IsListing};
 
 use crate::listing::push_listing;
@@ -21,25 +21,43 @@ pub fn show_word<W: Sink>(text: &[u8], sink: &mut W) -> Result<Summary, IoError>
     ensures shown { WritesAnswer (IsListing text.now) (W.state sink.old) (W.state sink.new) result }
     ensures any_error { IfOk result (λ summary. IsTrue summary.any_error ↔ (¬ IsWordText text.now)) }
 {
+    // without `0x`, which a row accepts: the output of `show` without a format is fixed
+    write_answer(text, sink, push_listing)
+}
+
+/// Writes the lines that `push` puts into an empty text for the word of a string, or the refusal of a string that is
+/// not a word, and flushes the sink.
+pub(crate) fn write_answer<W: Sink, F: FnOnce(&mut Text, u128)>(
+    text: &[u8],
+    sink: &mut W,
+    push: F,
+) -> Result<Summary, IoError>
+    requires sink { (W.state sink.old).has_failed ≡ false }
+    requires pushes { (old : _) (word : _) → old.now ≡ [] → F.pre push old word }
+    ensures shown { WritesAnswer (AnswersText (λ word lines. (old : _) × (new : _) × (old.now ≡ [])
+        × F.post push old word tt new × (new.now ≡ lines)) text.now) (W.state sink.old) (W.state sink.new) result }
+    ensures any_error { IfOk result (λ summary. IsTrue summary.any_error ↔ (¬ IsWordText text.now)) }
+{
     let mut answer = Text::new();
-    let summary = push_answer(&mut answer, text);
+    let summary = push_answer(&mut answer, text, push);
     match write_and_flush(&answer, sink) {
         Ok(()) => Ok(summary),
         Err(error) => Err(error),
     }
 }
 
-/// Appends the listing of the word, or the refusal of a string that is not a word. The summary
-/// reports an error if and only if the string is not a word.
-fn push_answer(answer: &mut Text, text: &[u8]) -> Summary
-    requires { answer.old ≡ [] }
-    ensures listing { IsListing text.now answer.new }
+/// Puts the output of [`write_answer`] into an empty text. The summary reports an error if and only if the string is
+/// not a word.
+fn push_answer<F: FnOnce(&mut Text, u128)>(answer: &mut Text, text: &[u8], push: F) -> Summary
+    requires empty { answer.old ≡ [] }
+    requires pushes { (old : _) (word : _) → old.now ≡ [] → F.pre push old word }
+    ensures answer { AnswersText (λ word lines. (old : _) × (new : _) × (old.now ≡ []) × F.post push old word tt new
+        × (new.now ≡ lines)) text.now answer.new }
     ensures any_error { IsTrue result.any_error ↔ (¬ IsWordText text.now) }
 {
-    // without `0x`, which a row accepts: the output of `show` without a format is fixed
     match read_word(text) {
         Some(word) => {
-            push_listing(answer, word);
+            push(answer, word);
             Summary { any_error: false }
         }
         None => {

@@ -38,15 +38,15 @@ ghost use Rattle.cc_explain.specs.WindowDrawing.{
   window_ground_text,
 };
 
+use crate::showing::write_answer;
 use crate::steps::{LAPS, Steps, decoding_steps, section, unit};
 use cc_bounds::Span;
 use cc_cap::Decoded;
 use cc_io::{
-    IoError, MOST_TEXT, Sink, Summary, Text, end_with_decimal, end_with_hexadecimal, push_decimal,
-    push_digits, push_hexadecimal, push_markup, push_opening, push_refusal, push_sheet,
-    read_typed_word, write_and_flush,
+    IoError, MOST_TEXT, Sink, Summary, Text, digits_in, end_with_decimal, end_with_hexadecimal,
+    push_decimal, push_digits, push_hexadecimal, push_markup, push_opening, push_sheet,
 };
-use cc_word::{Fields, Refusal};
+use cc_word::Fields;
 
 /// Writes a drawing of the window of a word, and flushes the sink once after it.
 ///
@@ -62,31 +62,7 @@ pub fn draw_window<W: Sink>(text: &[u8], sink: &mut W) -> Result<Summary, IoErro
     ensures shown { WritesAnswer (IsWindowDrawing text.now) (W.state sink.old) (W.state sink.new) result }
     ensures any_error { IfOk result (λ summary. IsTrue summary.any_error ↔ (¬ IsTypedWord text.now)) }
 {
-    let mut answer = Text::new();
-    let summary = push_drawing(&mut answer, text);
-    match write_and_flush(&answer, sink) {
-        Ok(()) => Ok(summary),
-        Err(error) => Err(error),
-    }
-}
-
-/// Appends the drawing of the window of the word, or the refusal of a string that is not a word. The
-/// summary reports an error if and only if the string is not a word.
-fn push_drawing(answer: &mut Text, text: &[u8]) -> Summary
-    requires { answer.old ≡ [] }
-    ensures drawing { IsWindowDrawing text.now answer.new }
-    ensures any_error { IsTrue result.any_error ↔ (¬ IsTypedWord text.now) }
-{
-    match read_typed_word(text) {
-        Some(word) => {
-            push_window_drawing(answer, word);
-            Summary { any_error: false }
-        }
-        None => {
-            push_refusal(answer, Refusal::Syntax);
-            Summary { any_error: true }
-        }
-    }
+    write_answer(digits_in(text), sink, push_window_drawing)
 }
 
 /// Puts the drawing of the window of a word into an empty text.
