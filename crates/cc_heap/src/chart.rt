@@ -3,7 +3,7 @@ ghost use Rattle.std.specs.Prelude.{◌≡◌, ◌≤◌, ◌<◌, ◌+◌, ◌*
 ghost use Rattle.arrayvec.specs.ArrayVec.{array_vec_len};
 ghost use Rattle.cc_heap.specs.Chart.{drawn_columns, event_count, joined, no_chart, with_event};
 
-use crate::levels::{Levels, NO_LEVELS};
+use crate::levels::Levels;
 use arrayvec::ArrayVec;
 use std::marker::Model;
 
@@ -41,7 +41,7 @@ impl Chart {
     {
         Chart {
             columns: ArrayVec::new(),
-            current: NO_LEVELS,
+            current: Levels::default(),
             filled: 0,
             width: 1,
         }
@@ -57,7 +57,7 @@ impl Chart {
             self.filled += 1;
             return;
         }
-        self.current = NO_LEVELS;
+        self.current = Levels::default();
         self.filled = 0;
         self.columns.push(current);
         if self.columns.is_full() {

@@ -15,14 +15,6 @@ pub struct Levels {
     pub high: u128,
 }
 
-/// The levels of a heap that has held nothing.
-pub(crate) const NO_LEVELS: Levels = Levels {
-    live: 0,
-    quarantine: 0,
-    held: 0,
-    high: 0,
-};
-
 impl Levels {
     /// Returns the larger of each of the numbers.
     pub(crate) fn greater_of(self, other: Levels) -> Levels
@@ -42,7 +34,7 @@ impl Levels {
 pub(crate) fn greatest_of(all: &[Levels]) -> Levels
     ensures { result ≡ greatest_of all.now }
 {
-    let mut most = NO_LEVELS;
+    let mut most = Levels::default();
     let mut rest = all;
     'levels: while let Some((levels, after)) = rest.split_first() {
         most = most.greater_of(*levels);
