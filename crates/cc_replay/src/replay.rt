@@ -13,7 +13,7 @@ ghost use Rattle.cc_replay.specs.Replay.{TakesLine, TakesRest, begun, figures_of
 ghost use Rattle.cc_replay.specs.Replay.{replaying, series_header, time_after};
 ghost use Rattle.cc_replay.specs.Taking.{AppendsEntry, AppendsEvent, RefusesEntry, TakesUnwritten, next_entry};
 
-use crate::counts::{Count, Counts};
+use crate::counts::Counts;
 use crate::series::{MOST_SAMPLE, push_sample, push_series_header};
 use crate::summary::Figures;
 use crate::{Entry, Progress, Reading, SampleReason, read_entry};
@@ -25,9 +25,6 @@ use cc_placer::Placer;
 use cc_word::Refusal;
 use std::alloc::{AllocError, Global};
 use std::marker::Model;
-
-/// No line.
-const NONE: Count = Count { times: 0, first: 0 };
 
 /// A reader of the lines of a trace: it takes their events into a run, and counts the lines.
 #[derive(Drop)]
@@ -85,25 +82,7 @@ impl<P: Placer> Replay<P> {
         Replay {
             run,
             reading,
-            counts: Counts {
-                lines: 0,
-                events: 0,
-                allocs: 0,
-                callocs: 0,
-                reallocs: 0,
-                frees: 0,
-                aligned: 0,
-                zero: 0,
-                failed: 0,
-                syntax: NONE,
-                range: NONE,
-                unfinished: NONE,
-                unknown: NONE,
-                live: NONE,
-                no_room: NONE,
-                full: NONE,
-                lost: NONE,
-            },
+            counts: Counts::default(),
             pending: None,
             time: 0,
             progress: Progress::Running,
