@@ -36,7 +36,8 @@ use Rattle.cc_replay.specs.declared.deeds.MadeEntry.{MadeEntry}
 use Rattle.cc_replay.specs.Changes.{AsksForUnit, CanBePlanned, Change, Changes, objects_made}
 use Rattle.cc_replay.specs.Changes.Change.{Make as MakeOne, Free as FreeOne, Replace as ReplaceOne, Sweep as SweepAll}
 use Rattle.cc_replay.specs.Operations.{Numbers, freeing, numbers_after, operations_of, with_number}
-use Rattle.cc_replay.specs.Deeds.{alloc_operations, as_number, deed_operations, deeds_of, free_operations, is_swept_clean, numbers_with, told_deeds}
+use Rattle.cc_replay.specs.Counts.{one_if}
+use Rattle.cc_replay.specs.Deeds.{alloc_operations, deed_operations, deeds_of, free_operations, is_swept_clean, numbers_with, told_deeds}
 use Rattle.cc_replay.specs.Kept.{HasBytes, IsKept, id_weight}
 use Rattle.cc_replay.proofs.EntryLemmas.{found_none, itself, none_counted, none_is, once_more, one_fewer, one_more, other_key, same_key}
 
@@ -476,7 +477,7 @@ pub record HasEnded (old new : Heap) : Type 0 where
   count : ℕ
   few : count ≤ 1
   history : HasHistory old new (λ n. replicate count SweepOp) stay count
-  clean : as_number (is_swept_clean new) ≡ count
+  clean : one_if (is_swept_clean new) ≡ count
 
 ends : (freed new : Heap) (waiting : List Span) (span : Span) → IsKept freed → 0 < length_of span
     → freed.memory.quarantined ≡ quarantined_with freed.settings.policy waiting span → FollowsPolicy freed new
@@ -485,15 +486,15 @@ ends freed new waiting span kept some is (inl (must, swept_is)) = record {
   count = 1;
   few = omega arith;
   history = sweeps_once freed new kept swept_is;
-  clean = ap (λ (h : Heap). as_number (is_swept_clean h)) swept_is
-      ∙ ap (λ (b : Bool). as_number (not b && true)) (not_immediate freed.settings.policy (gauge_of freed) must.asks);
+  clean = ap (λ (h : Heap). one_if (is_swept_clean h)) swept_is
+      ∙ ap (λ (b : Bool). one_if (not b && true)) (not_immediate freed.settings.policy (gauge_of freed) must.asks);
 }
 ends freed new waiting span kept some is (inr (not_must, same_is)) = record {
   count = 0;
   few = omega arith;
   history = same freed new kept same_is;
-  clean = ap (λ (h : Heap). as_number (is_swept_clean h)) same_is
-      ∙ ap as_number (waits (is_immediate freed.settings.policy) waiting freed.memory.quarantined span some is);
+  clean = ap (λ (h : Heap). one_if (is_swept_clean h)) same_is
+      ∙ ap one_if (waits (is_immediate freed.settings.policy) waiting freed.memory.quarantined span some is);
 }
 
 -- an object is freed, and then there is at most one sweep
@@ -501,7 +502,7 @@ pub record HasFreed (old : Heap) (id : ℕ) (new : Heap) : Type 0 where
   count : ℕ
   few : count ≤ 1
   pub history : HasHistory old new (λ n. freeing old.settings.policy (n.number_of id) ++ replicate count SweepOp) stay count
-  clean : as_number (is_swept_clean new) ≡ count
+  clean : one_if (is_swept_clean new) ≡ count
 
 pub frees_last : (old new : Heap) (id : ℕ) → IsKept old → FreesInHeap old id new → HasFreed old id new
 frees_last old new id kept is =
@@ -581,7 +582,7 @@ pub record HasMoved (old : Heap) (cleared : Option ℕ) (made : Option MadeEntry
   last : ℕ
   few : count ≤ 2
   few_last : last ≤ 1
-  clean : as_number (is_swept_clean new) ≡ last
+  clean : one_if (is_swept_clean new) ≡ last
   pub history : HasHistory old new
       (λ n. free_operations old.settings.policy n cleared
       ++ (replicate count SweepOp
@@ -592,7 +593,7 @@ moved_deeds : (old new : Heap) (event : Event) (outcome : Outcome) (cleared : Op
     → HasMoved old cleared made id new
     → ((clean : Bool) (sweeps : ℕ) → deeds_of event outcome sweeps clean ≡ record {
       cleared = cleared;
-      sweeps = sweeps - as_number clean;
+      sweeps = sweeps - one_if clean;
       made = made;
       freed = Some id;
       is_swept = clean;
@@ -600,7 +601,7 @@ moved_deeds : (old new : Heap) (event : Event) (outcome : Outcome) (cleared : Op
     → IsDone old event outcome new
 moved_deeds old new event outcome cleared made id moved deeds_are few =
     let sweeps = moved.history.sweeps (omega (arith, few, moved.few, moved.few_last)) in
-    let many : new.totals.sweeps - old.totals.sweeps - as_number (is_swept_clean new) ≡ moved.count =
+    let many : new.totals.sweeps - old.totals.sweeps - one_if (is_swept_clean new) ≡ moved.count =
     omega (arith, sweeps, moved.clean) in
     let deeds : Deeds = record {
       cleared = cleared;

@@ -1,5 +1,5 @@
 -- The counts of the lines of a trace, with one line more.
-use Rattle.std.specs.Prelude.{ℕ, Bool, ◌+◌, ◌==◌, nat_lt, if◌then◌else◌}
+use Rattle.std.specs.Prelude.{ℕ, Bool, true, false, ◌+◌, ◌==◌, nat_lt, if◌then◌else◌}
 use Rattle.cc_word.specs.declared.refusal.Refusal.{Refusal}
 use Rattle.cc_word.specs.declared.refusal.Refusal.TheVariants.{OutOfRange, Unfinished}
 use Rattle.cc_replay.specs.declared.counts.Count.{Count}
@@ -27,7 +27,8 @@ with_line counts = record counts { lines = capped_count (counts.lines + 1) }
 
 -- 1 if it holds, otherwise 0.
 abbrev pub one_if : Bool → ℕ
-one_if holds = if holds then 1 else 0
+one_if true = 1
+one_if false = 0
 
 -- The counts with one more object that the program could not make, if the last line reports one.
 abbrev pub with_failure : (is_failure : Bool) → Counts → Counts

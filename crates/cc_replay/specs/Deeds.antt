@@ -1,6 +1,6 @@
 -- The effect of an event on a heap, as far as the operations of its changes have it. Only private contracts
 -- cite these definitions.
-use Rattle.std.specs.Prelude.{ℕ, Bool, true, false, not, ◌≡◌, ◌≤◌, ◌-◌, ◌&&◌, nat_eq, List, [], ◌∷◌, ◌++◌, replicate, is_some, Option, Some, None, unwrap_or, if◌then◌else◌}
+use Rattle.std.specs.Prelude.{ℕ, Bool, false, not, ◌≡◌, ◌≤◌, ◌-◌, ◌&&◌, nat_eq, List, [], ◌∷◌, ◌++◌, replicate, is_some, Option, Some, None, unwrap_or, if◌then◌else◌}
 use Rattle.std.specs.List.{AllByRecursion}
 use Rattle.std.specs.Map.{lookup}
 use Rattle.cc_values.specs.declared.op.Op.{Op}
@@ -17,6 +17,7 @@ use Rattle.cc_heap.specs.Memory.{usage_of}
 use Rattle.cc_heap.specs.Policy.{is_immediate}
 use Rattle.cc_replay.specs.declared.deeds.Deeds.{Deeds}
 use Rattle.cc_replay.specs.declared.deeds.MadeEntry.{MadeEntry}
+use Rattle.cc_replay.specs.Counts.{one_if}
 use Rattle.cc_replay.specs.Changes.{CanBePlanned, Change, Changes, objects_made}
 use Rattle.cc_replay.specs.Operations.{Numbers, freeing, numbers_after, operations_of, with_number}
 
@@ -40,17 +41,12 @@ freed_last event outcome = if outcome.unknown then None else freed_id event
 abbrev pub is_swept_clean : Heap → Bool
 is_swept_clean heap = not (is_immediate heap.settings.policy) && nat_eq (usage_of heap.memory).quarantine 0
 
--- 1 or 0.
-abbrev pub as_number : Bool → ℕ
-as_number true = 1
-as_number false = 0
-
 -- The deeds of an event with this outcome, in which there was this number of sweeps, and after which the
 -- quarantine is empty or is not.
 abbrev pub deeds_of : Event → Outcome → (sweeps : ℕ) → (clean : Bool) → Deeds
 deeds_of event outcome sweeps clean = record {
   cleared = if outcome.was_live then made_id event else None;
-  sweeps = sweeps - as_number (is_some (freed_last event outcome) && clean);
+  sweeps = sweeps - one_if (is_some (freed_last event outcome) && clean);
   made = if was_made outcome.making then asked_entry event else None;
   freed = freed_last event outcome;
   is_swept = is_some (freed_last event outcome) && clean;
@@ -96,7 +92,7 @@ numbered_operations policy cleared freed deeds =
     numbered_free policy cleared
     ++ (replicate deeds.sweeps Sweep
     ++ (alloc_operations deeds.made
-    ++ (numbered_free policy freed ++ replicate (as_number deeds.is_swept) Sweep)))
+    ++ (numbered_free policy freed ++ replicate (one_if deeds.is_swept) Sweep)))
 
 -- The operations of deeds, from these numbers on.
 abbrev pub deed_operations : Policy → Numbers → Deeds → List Op

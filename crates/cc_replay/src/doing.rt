@@ -1,7 +1,7 @@
 //! The deeds of an event, and whether a script can have it.
 ghost use Rattle.std.specs.Prelude.{◌≡◌};
 ghost use Rattle.cc_replay.specs.Changes.{asks_for_unit};
-ghost use Rattle.cc_replay.specs.Deeds.{as_number, asked_entry, deeds_of, was_made};
+ghost use Rattle.cc_replay.specs.Deeds.{asked_entry, deeds_of, was_made};
 
 use crate::deeds::{Deeds, MadeEntry};
 use cc_bounds::Align;
@@ -25,7 +25,7 @@ pub(crate) fn deeds_of(event: Event, outcome: Outcome, sweeps: u64, clean: bool)
         } else {
             None
         },
-        sweeps: sweeps.saturating_sub(as_number(is_swept)),
+        sweeps: sweeps.saturating_sub(u64::from(is_swept)),
         made: if was_made(outcome.making) {
             asked_entry(event)
         } else {
@@ -34,13 +34,6 @@ pub(crate) fn deeds_of(event: Event, outcome: Outcome, sweeps: u64, clean: bool)
         freed,
         is_swept,
     }
-}
-
-/// Returns 1 or 0.
-pub(crate) fn as_number(flag: bool) -> u64
-    ensures { result ≡ as_number flag }
-{
-    if flag { 1 } else { 0 }
 }
 
 /// Returns the id and the size of the object that an event requests, or `None` if it requests none.

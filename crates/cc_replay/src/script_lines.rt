@@ -5,7 +5,6 @@ ghost use Rattle.cc_replay.specs.Operations.{operation_lines};
 ghost use Rattle.cc_replay.specs.Deeds.{alloc_operations, numbered_free, numbered_operations};
 
 use crate::deeds::{Deeds, MadeEntry};
-use crate::doing::as_number;
 use cc_heap::Policy;
 use cc_io::Page;
 
@@ -26,7 +25,7 @@ pub(crate) fn push_deeds<const N: usize>(
     push_sweeps(page, deeds.sweeps);
     push_alloc(page, deeds.made);
     push_free(page, policy, freed);
-    push_sweeps(page, as_number(deeds.is_swept));
+    push_sweeps(page, u64::from(deeds.is_swept));
 }
 
 /// Appends the lines of a free of the object of a number, if there is one.
