@@ -1,5 +1,5 @@
 -- The words that a search wants, by their fields, and the positions that it lists.
-use Rattle.std.proofs.Common.{ℕ, Bool, List, ◌≡◌, ◌∙◌, ◌≢◌, ◌+◌, ◌<◌, ◌≤◌, refl, ap, sym, subst, inl, inr, arith, below_more, get_or, get_or-set_other, get_or-set_same, length, set}
+use Rattle.std.proofs.Common.{ℕ, List, ◌≡◌, ◌∙◌, ◌≢◌, ◌+◌, ◌<◌, ◌≤◌, refl, ap, sym, subst, inl, inr, arith, below_more, get_or, get_or-set_other, get_or-set_same, length, set}
 use Rattle.std.specs.Prelude.{◌↔◌, IsTrue}
 use Rattle.std.specs.List.{SameFrom}
 use Rattle.std.proofs.lemmas.List.{length-set}
@@ -9,29 +9,18 @@ use Rattle.cc_word.specs.Permissions.{HasAll}
 use Rattle.cc_word.specs.Word.{word_of}
 use Rattle.cc_word.proofs.WordLemmas.{word_of-same}
 use Rattle.cc_bounds.specs.declared.span.Span.{Span}
-use Rattle.cc_bounds.specs.Span.{HasByte, length_of}
+use Rattle.cc_bounds.specs.Span.{HasByte}
 use Rattle.cc_bounds.specs.Encoding.{HasBoundsFields}
 use Rattle.cc_bounds.specs.Decoding.{DecodesTo}
 use Rattle.cc_bounds.specs.Window.{Represents}
 use Rattle.cc_bounds.proofs.SoundDecodingLemmas.{sound-decodes}
-use Rattle.cc_cap.specs.Capability.{Capability, IsCapability, IsUnsealed, sealed_with}
+use Rattle.cc_cap.specs.Capability.{Capability, IsCapability, sealed_with}
 use Rattle.cc_cap.specs.Canonical.{IsCanonical, IsFieldsOf, IsWordOf}
 use Rattle.cc_ffi.specs.declared.structs.Query.{Query}
-use Rattle.cc_ffi.specs.Search.{AreUnsealed, IsListed, IsSentryOf, IsWordFor, IsWanted, position_at}
+use Rattle.cc_ffi.specs.Search.{IsListed, IsSentryOf, IsWordFor, IsWanted, position_at}
 use Rattle.cc_ffi.proofs.RuleLemmas.{own_fields}
 
 -- ---- types
-
--- equal bounds fields
-moved_bounds : (span : Span) (one other : Fields) → other.ie ≡ one.ie → other.t ≡ one.t → other.b ≡ one.b
-    → HasBoundsFields span one.ie one.t one.b → HasBoundsFields span other.ie other.t other.b
-moved_bounds span one other ie t b has = record {
-  exponent = has.exponent;
-  is_exponent = has.is_exponent;
-  internal = subst (λ (bit : Bool). IsTrue bit ↔ (4096 ≤ length_of span)) (sym ie) has.internal;
-  is_t = t ∙ has.is_t;
-  is_b = b ∙ has.is_b;
-}
 
 -- a sentry's word has the fields of its capability with a sentry's type
 sentry_fields : (cap : Capability) (word : ℕ) (fields : Fields) → IsSentryOf cap word → word_of fields ≡ word
@@ -44,29 +33,9 @@ no_sentry : (otype : ℕ) → IsObjType otype → otype ≢ sentry_type
 no_sentry otype (inl low) same = absurd (omega (arith, low, same))
 no_sentry otype (inr high) same = absurd (omega (arith, high, same))
 
--- the unsealed fields of a sentry belong to its capability
-unsealed_of : (cap : Capability) (fields made : Fields) → AreUnsealed fields made → IsUnsealed cap
-    → IsFieldsOf (sealed_with cap sentry_type) fields → IsFieldsOf cap made
-unsealed_of cap fields made same unsealed has = record {
-  permissions = same.perms ∙ has.permissions;
-  reserved = same.reserved ∙ has.reserved;
-  flag = same.flag ∙ has.flag;
-  otype = same.otype ∙ sym unsealed;
-  bounds = moved_bounds cap.span fields made same.ie same.t same.b has.bounds;
-  address = same.address ∙ has.address;
-}
-
--- and back
-sentry_of : (cap : Capability) (fields made : Fields) → AreUnsealed fields made → fields.otype ≡ sentry_type → IsFieldsOf cap made
-    → IsFieldsOf (sealed_with cap sentry_type) fields
-sentry_of cap fields made same sentry has = record {
-  permissions = sym same.perms ∙ has.permissions;
-  reserved = sym same.reserved ∙ has.reserved;
-  flag = sym same.flag ∙ has.flag;
-  otype = sentry;
-  bounds = moved_bounds cap.span made fields (sym same.ie) (sym same.t) (sym same.b) has.bounds;
-  address = sym same.address ∙ has.address;
-}
+-- the fields with the type of an unsealed capability
+abbrev pub unsealed_fields : Fields → Fields
+unsealed_fields fields = record fields { otype = unsealed_type; otype_fits = omega arith }
 
 -- a taggable word with a sentry's type is a wanted sentry
 pub sentry_kind : (query : Query) (word : ℕ) (fields : Fields) → word_of fields ≡ word → fields.otype ≡ sentry_type
@@ -76,34 +45,46 @@ sentry_kind query word fields is sentry cap (inl has) =
 sentry_kind query word fields is sentry cap (inr s) = s
 
 -- a sentry is taggable exactly if it is wanted, and canonical with the type unsealed
-pub sentry_taggable : (query : Query) (word : ℕ) (fields made : Fields) → word_of fields ≡ word → fields.otype ≡ sentry_type
-    → AreUnsealed fields made → ((cap : Capability) × IsWordFor query cap word) ↔ (IsTrue query.sentries × IsCanonical (word_of made))
-sentry_taggable query word fields made is sentry same = (
+pub sentry_taggable : (query : Query) (word : ℕ) (fields : Fields) → word_of fields ≡ word → fields.otype ≡ sentry_type
+    → ((cap : Capability) × IsWordFor query cap word) ↔ (IsTrue query.sentries × IsCanonical (word_of (unsealed_fields fields)))
+sentry_taggable query word fields is sentry = (
   λ taggable.
-      let cap : Capability = taggable.0 in
-      let kind = sentry_kind query word fields is sentry cap taggable.1 in (
+      let kind = sentry_kind query word fields is sentry taggable.0 taggable.1 in
+      let has = sentry_fields taggable.0 word fields kind.0 is in (
         kind.1,
         (
-          cap,
+          taggable.0,
           record {
             is_capability = kind.0.is_capability;
-            fields = made;
-            is_fields = unsealed_of cap fields made same kind.0.unsealed (sentry_fields cap word fields kind.0 is);
+            fields = unsealed_fields fields;
+            is_fields = record {
+              permissions = has.permissions;
+              reserved = has.reserved;
+              flag = has.flag;
+              otype = sym kind.0.unsealed;
+              bounds = has.bounds;
+              address = has.address;
+            };
             is_word = refl;
           },
         ),
       ),
   λ both.
-      let cap : Capability = both.1.0 in
-      let has : IsWordOf cap (word_of made) = both.1.1 in
-      let own : IsFieldsOf cap made = own_fields cap (word_of made) made has refl in (
-        cap,
+      let own = own_fields both.1.0 (word_of (unsealed_fields fields)) (unsealed_fields fields) both.1.1 refl in (
+        both.1.0,
         inr (
           record {
-            is_capability = has.is_capability;
-            unsealed = sym own.otype ∙ same.otype;
+            is_capability = both.1.1.is_capability;
+            unsealed = sym own.otype;
             fields = fields;
-            is_fields = sentry_of cap fields made same sentry own;
+            is_fields = record {
+              permissions = own.permissions;
+              reserved = own.reserved;
+              flag = own.flag;
+              otype = sentry;
+              bounds = own.bounds;
+              address = own.address;
+            };
             is_word = sym is;
           },
           both.0,

@@ -2,7 +2,7 @@
 use Rattle.std.specs.Prelude.{ℕ, Bool, ◌≡◌, ◌≢◌, ◌⊎◌, ◌+◌, ◌*◌, ◌/◌, ◌%◌, ◌^◌, ◌<◌, ◌≤◌, List, length, min, if◌then◌else◌, IsTrue}
 use Rattle.std.specs.List.{slice_index_or}
 use Rattle.cc_word.specs.declared.fields.Fields.{Fields}
-use Rattle.cc_word.specs.ObjType.{sentry_type, unsealed_type}
+use Rattle.cc_word.specs.ObjType.{sentry_type}
 use Rattle.cc_word.specs.Permissions.{HasAll}
 use Rattle.cc_word.specs.Word.{word_of}
 use Rattle.cc_cap.specs.Capability.{Capability, IsCapability, IsSealed, IsUnsealed, Grants, sealed_with}
@@ -75,16 +75,3 @@ pub record EndsSearch (positions : List ℕ) (room words count next : ℕ) : Typ
   pub last : count < room → next ≡ words
   pub full : (k : ℕ) → k + 1 ≡ room → count ≡ room → next ≡ position_at positions k + 1
   pub none : room ≡ 0 → next ≡ 0
-
--- ---- For private functions.
-
--- AreUnsealed holds if `made` are the fields with the type of an unsealed capability.
-pub record AreUnsealed (fields made : Fields) : Type 0 where
-  pub perms : made.perms ≡ fields.perms
-  pub reserved : made.reserved ≡ fields.reserved
-  pub flag : made.flag ≡ fields.flag
-  pub otype : made.otype ≡ unsealed_type
-  pub ie : made.ie ≡ fields.ie
-  pub t : made.t ≡ fields.t
-  pub b : made.b ≡ fields.b
-  pub address : made.address ≡ fields.address

@@ -8,7 +8,7 @@ ghost use Rattle.cc_bounds.specs.Span.{HasByte};
 ghost use Rattle.cc_bounds.specs.declared.span.Span.{Span as SpanSpec};
 ghost use Rattle.cc_cap.specs.Capability.{Capability};
 ghost use Rattle.cc_ffi.specs.Numbers.{number_in};
-ghost use Rattle.cc_ffi.specs.Search.{AreUnsealed, EndsSearch, HasTag, IsListed, IsWordFor, IsWanted, IsWantedAt};
+ghost use Rattle.cc_ffi.specs.Search.{EndsSearch, HasTag, IsListed, IsWordFor, IsWanted, IsWantedAt};
 ghost use Rattle.cc_ffi.specs.Search.{searchable};
 
 use crate::c_memory::word_of;
@@ -126,24 +126,18 @@ fn is_taggable(query: &Query, word: u128, fields: &Fields) -> bool
     ensures { IsTrue result ↔ ((cap : Capability) × IsWordFor query.now cap word) }
 {
     match fields.otype {
-        SENTRY_TYPE => query.sentries && is_canonical(pack(&unsealed(fields))),
+        SENTRY_TYPE => query.sentries
+            && is_canonical(pack(&Fields {
+                perms: fields.perms,
+                reserved: fields.reserved,
+                flag: fields.flag,
+                otype: UNSEALED_TYPE,
+                ie: fields.ie,
+                t: fields.t,
+                b: fields.b,
+                address: fields.address,
+            })),
         UNSEALED_TYPE => is_canonical(word),
         _ => query.sealed && is_canonical(word),
-    }
-}
-
-/// Returns the fields with the type of an unsealed capability.
-fn unsealed(fields: &Fields) -> Fields
-    ensures { AreUnsealed fields.now result }
-{
-    Fields {
-        perms: fields.perms,
-        reserved: fields.reserved,
-        flag: fields.flag,
-        otype: UNSEALED_TYPE,
-        ie: fields.ie,
-        t: fields.t,
-        b: fields.b,
-        address: fields.address,
     }
 }

@@ -5,7 +5,7 @@ use Rattle.cc_ffi.proofs.search.is_taggable.Goals as goal
 
 pub returns-then-query : goal.returns-then-query
 returns-then-query c =
-    let taggable = sentry_taggable c.args.query.now c.args.word c.args.fields.now c.unsealed.result c.requires c.in-262142.is c.unsealed.ensures in (
+    let taggable = sentry_taggable c.args.query.now c.args.word c.args.fields.now c.requires c.in-262142.is in (
       λ yes. taggable.1 (c.if-query.true, subst IsCanonical c.pack.ensures (c.is_canonical.ensures.0 yes)),
       λ can. c.is_canonical.ensures.1 (subst IsCanonical (sym c.pack.ensures) (taggable.0 can).1),
     )
