@@ -1,10 +1,6 @@
 //! The forms of words in the input.
-ghost use Rattle.std.specs.Prelude.{◌≡◌, ◌↔◌, IfSome, IsSome};
-ghost use Rattle.std.specs.Str.Parse.{digits_value};
-ghost use Rattle.cc_io.specs.CommandOutput.{IsTypedWord};
+ghost use Rattle.std.specs.Prelude.{◌≡◌};
 ghost use Rattle.cc_io.specs.Lines.{digits_in};
-
-use cc_word::read_word;
 
 /// The order of the sixteen bytes of a word.
 #[derive(Clone, Copy)]
@@ -31,13 +27,4 @@ pub fn digits_in(text: &[u8]) -> &[u8]
     ensures { result.now ≡ digits_in text.now }
 {
     text.strip_prefix(b"0x").unwrap_or(text)
-}
-
-/// Returns the word of a string of 32 hexadecimal digits of either case, with or without `0x` in front
-/// of them.
-pub fn read_typed_word(text: &[u8]) -> Option<u128>
-    ensures found { IsSome result ↔ IsTypedWord text.now }
-    ensures value { IfSome result (λ word. word ≡ digits_value 16 (digits_in text.now)) }
-{
-    read_word(digits_in(text))
 }

@@ -21,7 +21,7 @@ pub use answerer::Answerer;
 pub use devices::{Failed, Sink, Source, write_all};
 pub use format::Format;
 pub use framing::{Blocks, Framing, Lines};
-pub use input_form::{ByteOrder, InputForm, digits_in, read_typed_word};
+pub use input_form::{ByteOrder, InputForm, digits_in};
 pub use line_start::{LineStart, split_at_line_feed};
 pub use numbered::{
     end_with_decimal, end_with_hexadecimal, push_decimal, push_digits, push_hexadecimal,
