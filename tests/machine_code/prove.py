@@ -28,14 +28,26 @@ def solver():
     return made
 
 
-def refute(term, where, places=()):
-    """Raises NotProved unless the term is false for every input."""
-    if not z3.is_false(term):
+_answers = {}
+
+
+def answer(term):
+    """Returns what z3 says about a term, and the input that it finds. It is asked once. The term is kept, so that z3 gives its number to no
+    other."""
+    if term.get_id() not in _answers:
         made = solver()
         made.add(term)
         said = made.check()
+        _answers[term.get_id()] = said, made.model() if said == z3.sat else None, term
+    return _answers[term.get_id()][:2]
+
+
+def refute(term, where, places=()):
+    """Raises NotProved unless the term is false for every input."""
+    if not z3.is_false(term):
+        said, found = answer(term)
         if said != z3.unsat:
-            raise NotProved(where, made.model() if said == z3.sat else None, places)
+            raise NotProved(where, found, places)
 
 
 def never(term, where, cases=(("", (), None),)):
