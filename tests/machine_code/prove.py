@@ -233,33 +233,33 @@ def conditions(term):
     return {it.get_id(): it for it in found}.values()
 
 
-def of_request(code, wanted, base, *known):
-    """Proves the terms of the code equal to the wanted ones, where those of `known` hold, if they depend on a request of bounds at that base.
+def given(case, *more):
+    """Returns one of the cases of MORE in which also each name equals its term, and more holds."""
+    name, places, extra = case
+    plain, named = apart(places)
+    return name, places, z3.And(extra, *more, *[z3.substitute(term, *plain) == it for term, it in named])
+
+
+def of_request(code, wanted, base):
+    """Proves the terms of the code equal to the wanted ones, if they depend on a request of bounds at that base.
     In most cases two facts come first: whether the request ends at 2^64 or below, and whether its exponent grows. Each is a constant then,
     and so is a condition of the code that is proved to be one of them. What is left has hardly a shift by a variable. It is proved for
     every end of the request, with end - length for the base."""
     g, differs = model.Granted(base, LENGTH), z3.Or(*[code[it] != wanted[it] for it in wanted])
-    never(z3.And(*known, differs), "the result", RARE)
+    never(differs, "the result", RARE)
     end, carry = z3.BitVec("request_end", 64), z3.BitVec("request_carry", 1)
     names = [(model.ext(base) + bits(LENGTH, model.W - 1, 0), wide(z3.Concat(carry, end), model.W)), (base, end - LENGTH_LOW)]
     is_carried = (carry == 1) == z3.ULT(end, LENGTH_LOW)
-
-    def given(case, *more):
-        name, places, extra = case
-        plain, named = apart(places)
-        return [(name, places, z3.And(extra, *more, *[z3.substitute(term, *plain) == it for term, it in named]))]
 
     def facts(found, case):
         """Returns those conditions that are one of the facts in a case, or its opposite."""
         here = []
         for one in needs:
             equal = [([], it == (fact if is_so else z3.Not(fact)), (it, fact, is_so)) for it, fact, is_so in found if fact.eq(one)]
-            here += following(equal, given(case, *needs[one]))
+            here += following(equal, [given(case, *needs[one])])
         return here
 
     needs, combinations = {g.in_range: [], g.grows: [g.in_range]}, [[g.in_range, g.grows], [g.in_range], []]
-    if g.in_range in known:
-        combinations.pop()
     about = [it for it in conditions(z3.Concat(*code.values())) if {str(base), "length_low"} <= variables(it)]
     found = facts([(it, fact, is_so) for it in about for fact in needs for is_so in (True, False)], MORE[len(MORE) // 2])
     for case in MORE:
@@ -268,9 +268,9 @@ def of_request(code, wanted, base, *known):
             constants = [(it, z3.BoolVal((fact in holds) == is_so)) for it, fact, is_so in here if {*needs[fact]} <= {*holds}]
             constants += [(fact, z3.BoolVal(fact in holds)) for fact in needs if {*needs[fact]} <= {*holds}]
             try:
-                never(z3.simplify(z3.substitute(z3.substitute(differs, *constants), *names)), "the result", given(case, is_carried))
+                never(z3.simplify(z3.substitute(z3.substitute(differs, *constants), *names)), "the result", [given(case, is_carried)])
             except NotProved:
-                never(z3.And(*known, differs), "the result", given(case))
+                never(differs, "the result", [given(case)])
                 break
 
 
@@ -318,12 +318,12 @@ def bounded(name, ends, wanted):
         by_cases(merged(refused, "refusal") != inexact, "the refusal", "word")
     made = functions.narrowed(False)["high"].arg(1)  # the word if no check fails
     holds = g.exact if name == "set_bounds_exact_on" else z3.BoolVal(True)
-    given = {"refusal": z3.If(holds, bv(0, 8), bv(model.INEXACT, 8)), "high": functions.whole(holds, made), "low": functions.whole(holds, LOW)}
-    never(z3.And(inexact == 0, z3.Or(*[wanted[it] != given[it] for it in given])), "the model's word")
+    needed = {"refusal": z3.If(holds, bv(0, 8), bv(model.INEXACT, 8)), "high": functions.whole(holds, made), "low": functions.whole(holds, LOW)}
+    never(z3.And(inexact == 0, z3.Or(*[wanted[it] != needed[it] for it in needed])), "the model's word")
     others, ends = ([it for it in ends if (rough(it[1]["refusal"]).as_long() == 0) == is_given] for is_given in (False, True))
     never(z3.Or(*[fields[it] != 0 for _, fields in others for it in ("high", "low")]), "no word")
     shared = [it for it in ends[0][0] if all(any(it.eq(other) for other in path) for path, _ in ends)]
-    of_request({it: merged(ends, it) for it in given}, given, LOW, g.in_range, *filter(is_light, shared))
+    never(z3.And(g.in_range, *filter(is_light, shared), differing(ends, needed)), "the result", [*RARE, *map(given, MORE)])
 
 
 class Half:
