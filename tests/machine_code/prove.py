@@ -415,7 +415,7 @@ def two_words(name, ends, wanted):
                     (places if isinstance(what, tuple) else facts).append(what)
         light = [z3.substitute(it, *places) for it in path]
         differs = z3.Or(*[z3.substitute(fields[it], *places) != wanted[it] for it in wanted])
-        never(z3.And(*facts, *filter(is_light, light), differs), "the result")
+        never(z3.And(*facts, *filter(is_small, light), differs), "the result")
 
 
 def bounds(_, ends, wanted):
