@@ -2,12 +2,12 @@
 ghost use Rattle.std.specs.Prelude.{◌≡◌, ◌+◌, ◌≤◌, ℕ, List, Result, length};
 ghost use Rattle.cc_word.specs.declared.refusal.Refusal.{Refusal as RefusalSpec};
 ghost use Rattle.cc_values.specs.declared.op.Op.{Op as OpSpec};
-ghost use Rattle.cc_values.specs.Values.{words_of};
-ghost use Rattle.cc_syntax.specs.Commands.{command_in, operation_of};
+ghost use Rattle.cc_values.specs.Values.{single, words_of};
+ghost use Rattle.cc_syntax.specs.Commands.{command_in, one, operation_of, slot_and, two};
 
 use crate::values::{Value, slot_and, slot_and_perhaps};
 use crate::words::{after, is};
-use cc_bounds::{Align, Len};
+use cc_bounds::Align;
 use cc_io::{Page, WholeLine};
 use cc_values::Op;
 use cc_word::Refusal;
@@ -73,8 +73,8 @@ fn parse_words(line: &[u8]) -> Result<Op, Refusal>
 /// name, the form of the values, and the operation.
 ///
 /// Requires: 193 bytes of the page are free.
-// Each command is taken in an arm in which the compiler knows the operation. In a run the taker is the session of
-// cc_script, which steps its machine.
+// Each command is taken in an arm in which the compiler knows the operation, since what the arm calls is inlined. In a
+// run the taker is the session of cc_script, which steps its machine.
 #[inline(always)]
 pub fn take_command<const N: usize, T: Taker<N>>(
     taker: &mut T,
@@ -86,63 +86,96 @@ pub fn take_command<const N: usize, T: Taker<N>>(
         → T.Taken taker.old command result text.old text.new taker.new }
 {
     if let Some(values) = after(line, b"show ") {
-        taker.take(text, u32::read(values).map(Op::Show))
+        take_of_value(taker, text, values, Op::Show)
     } else if let Some(values) = after(line, b"round ") {
-        taker.take(text, Len::read(values).map(Op::Round))
+        take_of_value(taker, text, values, Op::Round)
     } else if let Some(values) = after(line, b"alloc ") {
-        taker.take(text, Len::read(values).map(Op::Alloc))
+        take_of_value(taker, text, values, Op::Alloc)
     } else if let Some(values) = after(line, b"free ") {
-        taker.take(text, u32::read(values).map(Op::Free))
+        take_of_value(taker, text, values, Op::Free)
     } else if let Some(values) = after(line, b"inc ") {
-        taker.take(
-            text,
-            slot_and(values).map(|(slot, amount)| Op::Inc(slot, amount)),
-        )
+        take_of_slot(taker, text, values, Op::Inc)
     } else if let Some(values) = after(line, b"addr ") {
-        taker.take(
-            text,
-            slot_and(values).map(|(slot, address)| Op::Addr(slot, address)),
-        )
+        take_of_slot(taker, text, values, Op::Addr)
     } else if let Some(values) = after(line, b"bounds ") {
-        taker.take(
-            text,
-            slot_and(values).map(|(slot, len)| Op::Bounds(slot, len)),
-        )
+        take_of_slot(taker, text, values, Op::Bounds)
     } else if let Some(values) = after(line, b"exact ") {
-        taker.take(
-            text,
-            slot_and(values).map(|(slot, len)| Op::Exact(slot, len)),
-        )
+        take_of_slot(taker, text, values, Op::Exact)
     } else if let Some(values) = after(line, b"perms ") {
-        taker.take(
-            text,
-            slot_and(values).map(|(slot, set)| Op::Perms(slot, set)),
-        )
+        take_of_slot(taker, text, values, Op::Perms)
     } else if let Some(values) = after(line, b"flag ") {
-        taker.take(
-            text,
-            slot_and(values).map(|(slot, flag)| Op::Flag(slot, flag)),
-        )
+        take_of_slot(taker, text, values, Op::Flag)
     } else if let Some(values) = after(line, b"seal ") {
-        taker.take(text, slot_and(values).map(|(slot, by)| Op::Seal(slot, by)))
+        take_of_slot(taker, text, values, Op::Seal)
     } else if let Some(values) = after(line, b"unseal ") {
-        taker.take(
-            text,
-            slot_and(values).map(|(slot, by)| Op::Unseal(slot, by)),
-        )
+        take_of_slot(taker, text, values, Op::Unseal)
     } else if let Some(values) = after(line, b"rebuild ") {
-        taker.take(
-            text,
-            slot_and(values).map(|(slot, word)| Op::Rebuild(slot, word)),
-        )
+        take_of_slot(taker, text, values, Op::Rebuild)
     } else if let Some(values) = after(line, b"pool ") {
-        taker.take(
-            text,
-            slot_and_perhaps(Align::One, values).map(|(slot, align)| Op::Pool(slot, align)),
-        )
+        taker.take(text, made(slot_and_perhaps(Align::One, values), Op::Pool))
     } else if is(line, b"sweep") {
         taker.take(text, Ok(Op::Sweep))
     } else {
         taker.take(text, Err(Refusal::Syntax))
+    }
+}
+
+/// Takes the operation that is made of a value, or the refusal of the value.
+///
+/// Requires: 193 bytes of the page are free, and `make` takes every value.
+// The proof of the table grows with the calls in its arms, so an arm makes one: of this function or of the next.
+#[inline(always)]
+fn take_of_value<const N: usize, T: Taker<N>, V: Value, F: FnOnce(V) -> Op>(
+    taker: &mut T,
+    text: &mut Page<N>,
+    values: &[u8],
+    make: F,
+) -> T::Out
+    requires room { length text.old + 193 ≤ N }
+    requires callable { (value : V) → F.pre make value }
+    ensures { (makes : V → OpSpec) (command : Result OpSpec RefusalSpec)
+        → ((value : V) (op : OpSpec) → F.post make value op → op ≡ makes value)
+        → command ≡ one makes (single V.value_in (words_of values.now))
+        → T.Taken taker.old command result text.old text.new taker.new }
+{
+    taker.take(text, V::read(values).map(make))
+}
+
+/// Takes the operation that is made of a slot and a value, or the refusal of these.
+///
+/// Requires: 193 bytes of the page are free, and `make` takes every slot and value.
+#[inline(always)]
+fn take_of_slot<const N: usize, T: Taker<N>, V: Value, F: FnOnce(u32, V) -> Op>(
+    taker: &mut T,
+    text: &mut Page<N>,
+    values: &[u8],
+    make: F,
+) -> T::Out
+    requires room { length text.old + 193 ≤ N }
+    requires callable { (slot : ℕ) (value : V) → F.pre make slot value }
+    ensures { (makes : ℕ → V → OpSpec) (command : Result OpSpec RefusalSpec)
+        → ((slot : ℕ) (value : V) (op : OpSpec) → F.post make slot value op → op ≡ makes slot value)
+        → command ≡ two makes (slot_and V.value_in (words_of values.now))
+        → T.Taken taker.old command result text.old text.new taker.new }
+{
+    taker.take(text, made(slot_and(values), make))
+}
+
+/// Returns the operation that is made of a slot and a value, or their refusal.
+///
+/// Requires: `make` takes every slot and value.
+#[inline(always)]
+fn made<V: Value, F: FnOnce(u32, V) -> Op>(
+    parts: Result<(u32, V), Refusal>,
+    make: F,
+) -> Result<Op, Refusal>
+    requires { (slot : ℕ) (value : V) → F.pre make slot value }
+    ensures { (makes : ℕ → V → OpSpec)
+        → ((slot : ℕ) (value : V) (op : OpSpec) → F.post make slot value op → op ≡ makes slot value)
+        → result ≡ two makes parts }
+{
+    match parts {
+        Ok((slot, value)) => Ok(make(slot, value)),
+        Err(refusal) => Err(refusal),
     }
 }
