@@ -44,7 +44,7 @@ def covers():
     """The granted bounds cover the request, end at 2^64 or below, and lose less than a granule at each end."""
     g = Granted(BASE, LENGTH)
     covers = z3.And(z3.ULE(g.granted_base, BASE), z3.UGE(ext(g.granted_top), END), z3.ULE(g.granted_top, TWO64))
-    lost = z3.And(z3.ULT(ext(BASE) - ext(g.granted_base), g.granule), z3.ULT(ext(g.granted_top) - END, g.granule))
+    lost = z3.And(z3.ULT(ext(BASE), ext(g.granted_base) + g.granule), z3.ULT(ext(g.granted_top), END + g.granule))
     return z3.Implies(g.in_range, z3.And(covers, lost)), "length"
 
 
@@ -73,11 +73,14 @@ def rounds():
     return z3.Implies(g.in_range, z3.And(is_next, again.exact)), "length"
 
 
+def are_multiples(base, top, unit):
+    return z3.And(ext(base) & (unit - 1) == 0, ext(top) & (unit - 1) == 0)
+
+
 def is_stored(base, top, e, ie):
     """Both ends are multiples of the granule, of which there are at most 1,023; or without IE there are fewer than 4,096 bytes."""
     unit, span = bv(1, model.W) << (e + 3), ext(top) - ext(base)
-    is_multiple = z3.And(ext(base) & (unit - 1) == 0, ext(top) & (unit - 1) == 0)
-    return z3.If(ie, z3.And(is_multiple, z3.ULT(span, unit << 10)), z3.And(e == 0, z3.ULT(span, 4096)))
+    return z3.If(ie, z3.And(are_multiples(base, top, unit), z3.ULT(span, unit << 10)), z3.And(e == 0, z3.ULT(span, 4096)))
 
 
 def stores():
@@ -86,22 +89,35 @@ def stores():
     return z3.Implies(z3.And(z3.ULE(ext(base, 65), top), z3.ULE(top, TWO64)), is_stored(base, top, e, WORD.ie == 1)), "word"
 
 
-def tightest():
-    """Any bounds that are stored so, cover the request and end at 2^64 or below cover the granted ones. By stores(), that is so of the
-    bounds of every word: so narrowing bounds gives nothing that the word did not have."""
-    base, top, e, ie = z3.BitVec("any_base", 64), z3.BitVec("any_top", 65), ext(z3.BitVec("any_e", 6)), z3.Bool("any_ie")
+ANY_BASE, ANY_TOP = z3.BitVec("any_base", 64), z3.BitVec("any_top", 65)
+IS_STORED = is_stored(ANY_BASE, ANY_TOP, ext(z3.BitVec("any_e", 6)), z3.Bool("any_ie"))
+
+
+def is_covering(g):
+    return z3.And(g.in_range, z3.ULE(ANY_BASE, BASE), z3.UGE(ext(ANY_TOP), END), z3.ULE(ANY_TOP, TWO64))
+
+
+def coarse():
+    """Any bounds that are stored so, cover the request and end at 2^64 or below are multiples of its granule."""
     g = Granted(BASE, LENGTH)
-    is_covering = z3.And(g.in_range, z3.ULE(base, BASE), z3.UGE(ext(top), END), z3.ULE(top, TWO64), is_stored(base, top, e, ie))
-    return z3.Implies(is_covering, z3.And(z3.ULE(base, g.granted_base), z3.UGE(top, g.granted_top))), "length"
+    return z3.Implies(z3.And(is_covering(g), IS_STORED), are_multiples(ANY_BASE, ANY_TOP, g.granule)), "length"
+
+
+def tightest():
+    """Such multiples cover the granted bounds. By stores() and coarse(), that is so of the bounds of every word that cover the request: so
+    narrowing bounds gives nothing that the word did not have."""
+    g = Granted(BASE, LENGTH)
+    covers = z3.And(z3.ULE(ANY_BASE, g.granted_base), z3.UGE(ANY_TOP, g.granted_top))
+    return z3.Implies(z3.And(is_covering(g), are_multiples(ANY_BASE, ANY_TOP, g.granule)), covers), "length"
 
 
 def least():
-    """No word's bounds of at least `length` bytes that end at 2^64 or below are shorter than the representable length."""
-    g = of_length()
-    base, top, _ = model.decode(WORD)
-    span = ext(top) - ext(base)
-    given = z3.And(g.in_range, z3.ULE(ext(base, 65), top), z3.ULE(top, TWO64), z3.UGE(span, bits(LENGTH, model.W - 1, 0)))
-    return z3.Implies(given, z3.UGE(span, rounded(g))), "word"
+    """No bounds of at least `length` bytes that are stored so and end at 2^64 or below are shorter than the representable length. By stores(),
+    no word's are."""
+    g, span = of_length(), ext(ANY_TOP) - ext(ANY_BASE)
+    is_ordered = z3.And(z3.ULE(ext(ANY_BASE, 65), ANY_TOP), z3.ULE(ANY_TOP, TWO64))
+    given = z3.And(g.in_range, is_ordered, z3.UGE(span, bits(LENGTH, model.W - 1, 0)), IS_STORED)
+    return z3.Implies(given, z3.UGE(span, rounded(g))), "length"
 
 
 def shrinks(name):
@@ -122,6 +138,6 @@ def sums():
     return z3.And(*[z3.substitute(made[it], (NUMBER, LOW + NUMBER)) == term for it, term in FUNCTIONS["increment"].result().items()]), "word"
 
 
-PROVED = sums, short, short_decode, same_bounds, first_to_last, derivable, covers, decodes, sound, rounds, stores, tightest, least
+PROVED = sums, short, short_decode, same_bounds, first_to_last, derivable, covers, decodes, sound, rounds, stores, coarse, tightest, least
 LEMMAS = {it.__name__: it for it in PROVED}
 LEMMAS |= {f"shrinks_{name}": shrinks(name) for name in "set_address and_perms set_flag seal unseal".split()}
