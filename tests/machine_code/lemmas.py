@@ -10,10 +10,21 @@ END = ext(BASE) + bits(LENGTH, model.W - 1, 0)
 TWO64 = bv(model.TWO64, 65)
 
 
+def leading():
+    """The length of a word's bounds that can be set has its highest bit where the exponent says, if that is not the largest."""
+    base, top, e = model.decode(WORD)
+    can_be_set = z3.And(z3.ULE(ext(base, 65), top), z3.ULE(top, TWO64))
+    return z3.Implies(z3.And(can_be_set, z3.ULT(e, model.CAP_MAX_E)), model.stored(base, top).leading == e), "word"
+
+
 def short():
-    """Words are canonical by the short form if and only if setting the bounds that they decode to stores their fields."""
-    (reason, stored, *_), (short_reason, short_stored, *_) = model.defect(WORD), model.defect_short(WORD)
-    return z3.And(reason == short_reason, stored == short_stored), "word"
+    """Words are canonical by the short form if and only if setting the bounds that they decode to stores their fields, with the exponent for
+    the place of the length's highest bit. By leading(), that is the same for bounds that can be set, and for others no place counts."""
+    (reason, is_stored, base, top, e), (short_reason, is_stored_short, *_) = model.defect(WORD), model.defect_short(WORD)
+    place = model.stored(base, top).leading
+    known = z3.If(z3.ULT(e, model.CAP_MAX_E), e, place)
+    reason, is_stored = (z3.substitute(it, (place, known)) for it in (reason, is_stored))
+    return z3.And(reason == short_reason, is_stored == is_stored_short), "word"
 
 
 def short_decode():
@@ -56,7 +67,10 @@ def decodes():
     """The granted fields decode, at the request's base, to the granted bounds and exponent."""
     g = Granted(BASE, LENGTH)
     base, top, e = model.decode(granted_word(g))
-    return z3.Implies(g.in_range, z3.And(base == g.granted_base, top == g.granted_top, e == g.e)), "length"
+    decodes = z3.And(base == g.granted_base, top == g.granted_top, e == g.e)
+    # whether the exponent grows is a constant in each half, so that no shift is by a variable
+    halves = [z3.Implies(g.grows == it, z3.substitute(decodes, (g.grows, it))) for it in (z3.BoolVal(True), z3.BoolVal(False))]
+    return z3.Implies(g.in_range, z3.And(*halves)), "length"
 
 
 def sound():
@@ -138,6 +152,6 @@ def sums():
     return z3.And(*[z3.substitute(made[it], (NUMBER, LOW + NUMBER)) == term for it, term in FUNCTIONS["increment"].result().items()]), "word"
 
 
-PROVED = sums, short, short_decode, same_bounds, first_to_last, derivable, covers, decodes, sound, rounds, stores, coarse, tightest, least
+PROVED = sums, leading, short, short_decode, same_bounds, first_to_last, derivable, covers, decodes, sound, rounds, stores, coarse, tightest, least
 LEMMAS = {it.__name__: it for it in PROVED}
 LEMMAS |= {f"shrinks_{name}": shrinks(name) for name in "set_address and_perms set_flag seal unseal".split()}

@@ -106,6 +106,7 @@ class Granted:
         e = bv(0, W)
         for place in range(13, 65):
             e = z3.If(bits(n, place, place) == 1, bv(place - 12, W), e)
+        self.leading = e
         self.ie = z3.Or(e != 0, bits(n, 12, 12) == 1)
 
         def rounded(e):
@@ -146,10 +147,15 @@ def judged(f, base, top, is_same):
     return reason, z3.And(is_ordered, is_inside, is_same)
 
 
+def stored(base, top):
+    """What setting the bounds from base to top is granted."""
+    return Granted(base, ext(top, 128) - ext(base, 128))
+
+
 def defect(f):
     """The first reason why a word is not one that a derivation can make, whether setting its bounds stores them as it does, and its bounds."""
     base, top, e = decode(f)
-    made = Granted(base, ext(top, 128) - ext(base, 128))
+    made = stored(base, top)
     is_same = z3.And(flag_bit(made.ie) == f.ie, made.t == f.t, made.b == f.b)
     return *judged(f, base, top, is_same), base, top, e
 
