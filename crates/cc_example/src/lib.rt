@@ -11,4 +11,4 @@ mod reading;
 #[cfg(test)]
 mod scripts;
 
-pub use reading::{bounds_of, read_only};
+pub use reading::read_only;
