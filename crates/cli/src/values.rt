@@ -6,7 +6,8 @@ ghost use Rattle.cc_values.specs.Values.{address_in, permissions_in};
 ghost use Rattle.cli.specs.Invocation.{HasBase, HasChoice, HasDecodeValues, HasLimit, HasOutput, HasPool};
 ghost use Rattle.cli.specs.Invocation.{HasPoolTexts, HasReplayValues, HasSearch, HasText, IsBase, IsChosen, IsLimit};
 ghost use Rattle.cli.specs.Invocation.{IsRead, align_named, format_named, format_names, input_named, is_on, is_read};
-ghost use Rattle.cli.specs.Invocation.{order_names, search_mistake_of, shown_format, summary_named, summary_names};
+ghost use Rattle.cli.specs.Invocation.{order_names, replay_output, search_mistake_of, shown_format, summary_named};
+ghost use Rattle.cli.specs.Invocation.{summary_names};
 
 use crate::invocation::{
     DecodeValues, PoolTexts, ReplayOutput, ReplayValues, SearchValues, SummaryFormat,
@@ -185,11 +186,23 @@ fn output_of<'a>(matches: &ArgMatches<'a>) -> Option<ReplayOutput<'a>>
     requires { HasChoice summary_named (codes "summary") (rows_of (found_of matches.now)) }
     ensures { HasOutput (rows_of (found_of matches.now)) result }
 {
-    let format = summary_of(matches);
     let sizes = is_on(matches, "sizes");
     let svg = is_on(matches, "svg");
     let script = is_on(matches, "script");
     let each = value_of(matches, "each");
+    replay_output(summary_of(matches), sizes, svg, script, each)
+}
+
+/// Returns the output of `replay` by the format of tables and the options that are given, or `None` if two are.
+fn replay_output<'a>(
+    format: SummaryFormat,
+    sizes: bool,
+    svg: bool,
+    script: bool,
+    each: Option<&'a str>,
+) -> Option<ReplayOutput<'a>>
+    ensures { result ≡ replay_output format sizes svg script each.entry }
+{
     match (sizes, svg, script, each) {
         (false, false, false, None) => Some(ReplayOutput::Summary(format)),
         (true, false, false, None) => Some(ReplayOutput::Sizes(format)),
