@@ -46,6 +46,36 @@ impl<'a, R: AllocGlobal + Files + Input + Eprint> ProcessInputs<'a, R> {
             last_error,
         }
     }
+
+    /// Opens an input as [`Inputs::open_after`] does, and returns its source, or one of no input.
+    fn source_of(
+        &self,
+        input: InputName<'_>,
+        content: Content,
+        most: u64,
+    ) -> (
+        FromReader<Either<Noting<'a, Opened<'a, R>>, Empty>>,
+        Result<u64, Fault>,
+    )
+        ensures within { IfOk result.1 (λ passed. passed ≤ most) }
+        ensures fails { IfErr result.1 (λ fault. (fault ≡ Fault.Open) × IsFile input.entry) }
+        ensures ready { (⟦<FromReader<Either<Noting<'a, Opened<'a, R>>, Empty>> as Source>⟧.state result.0).has_failed
+            ≡ false }
+    {
+        let is_typed = self.is_typed && matches!(content, Content::Script);
+        let is_watched = self.is_watched && matches!(content, Content::Trace);
+        self.last_error.set_input(self.rt.alloc(), input);
+        match open_input(self.rt, is_typed, is_watched, input, most, self.last_error) {
+            Ok((reader, passed)) => {
+                let reader = Left(Noting::new(reader, self.last_error));
+                (
+                    FromReader::with_limit(reader, limit_of(content)),
+                    Ok(passed),
+                )
+            }
+            Err(fault) => (no_input(), Err(fault)),
+        }
+    }
 }
 
 /// Creates a source of no input.
@@ -85,23 +115,10 @@ impl<'a, R: AllocGlobal + Files + Input + Eprint> Inputs for ProcessInputs<'a, R
         most: u64,
         source: &mut FromReader<Either<Noting<'a, Opened<'a, R>>, Empty>>,
     ) -> Result<u64, Fault> {
-        let is_typed = self.is_typed && matches!(content, Content::Script);
-        let is_watched = self.is_watched && matches!(content, Content::Trace);
-        self.last_error.set_input(self.rt.alloc(), input);
-        match open_input(self.rt, is_typed, is_watched, input, most, self.last_error) {
-            Ok((reader, passed)) => {
-                *source = FromReader::with_limit(
-                    Left(Noting::new(reader, self.last_error)),
-                    limit_of(content),
-                );
-                Ok(passed)
-            }
-            Err(fault) => {
-                self.has_refused = true;
-                *source = no_input();
-                Err(fault)
-            }
-        }
+        let (opened, result) = self.source_of(input, content, most);
+        self.has_refused = result.is_err();
+        *source = opened;
+        result
     }
 
     // Other files are not opened: a pipe has been read to its end, and waits for another writer.
