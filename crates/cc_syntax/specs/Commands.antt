@@ -105,6 +105,12 @@ abbrev pub command_in : (words : List (List ℕ)) → Result Op Refusal
 command_in [] = Err Syntax
 command_in (name ∷ values) = operation_in commands name values
 
+-- The operation of these words, of which the first is the name of a command of these rows, or the
+-- error. No public clause cites it.
+abbrev pub command_by : (rows : List Command) → (words : List (List ℕ)) → Result Op Refusal
+command_by rows [] = Err Syntax
+command_by rows (name ∷ values) = operation_in rows name values
+
 -- The operation of a line, or its error. For more than 128 bytes the error is `TooLong`, whatever
 -- the line contains.
 unfoldable pub operation_of : (line : List ℕ) → Result Op Refusal

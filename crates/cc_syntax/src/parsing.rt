@@ -1,9 +1,9 @@
 //! Parses a line as an operation: the table of commands.
-ghost use Rattle.std.specs.Prelude.{◌≡◌, ◌+◌, ◌≤◌, ℕ, List, Result, length};
+ghost use Rattle.std.specs.Prelude.{◌≡◌, ◌+◌, ◌≤◌, ℕ, List, Result, drop, length};
 ghost use Rattle.cc_word.specs.declared.refusal.Refusal.{Refusal as RefusalSpec};
 ghost use Rattle.cc_values.specs.declared.op.Op.{Op as OpSpec};
 ghost use Rattle.cc_values.specs.Values.{single, words_of};
-ghost use Rattle.cc_syntax.specs.Commands.{command_in, one, operation_of, slot_and, two};
+ghost use Rattle.cc_syntax.specs.Commands.{command_by, command_in, commands, one, operation_of, slot_and, two};
 
 use crate::values::{Value, slot_and, slot_and_perhaps};
 use crate::words::{after, is};
@@ -93,7 +93,26 @@ pub fn take_command<const N: usize, T: Taker<N>>(
         take_of_value(taker, text, values, Op::Alloc)
     } else if let Some(values) = after(line, b"free ") {
         take_of_value(taker, text, values, Op::Free)
-    } else if let Some(values) = after(line, b"inc ") {
+    } else {
+        take_derivation(taker, text, line)
+    }
+}
+
+/// Takes the operation of a line of at most 128 bytes by the table from `inc` on, or the refusal of the line.
+///
+/// Requires: 193 bytes of the page are free.
+// The proof of a chain of arms grows with the square of its length, so the table has three functions.
+#[inline(always)]
+fn take_derivation<const N: usize, T: Taker<N>>(
+    taker: &mut T,
+    text: &mut Page<N>,
+    line: &[u8],
+) -> T::Out
+    requires { length text.old + 193 ≤ N }
+    ensures { (command : Result OpSpec RefusalSpec) → command ≡ command_by (drop 4 commands) (words_of line.now)
+        → T.Taken taker.old command result text.old text.new taker.new }
+{
+    if let Some(values) = after(line, b"inc ") {
         take_of_slot(taker, text, values, Op::Inc)
     } else if let Some(values) = after(line, b"addr ") {
         take_of_slot(taker, text, values, Op::Addr)
@@ -105,7 +124,25 @@ pub fn take_command<const N: usize, T: Taker<N>>(
         take_of_slot(taker, text, values, Op::Perms)
     } else if let Some(values) = after(line, b"flag ") {
         take_of_slot(taker, text, values, Op::Flag)
-    } else if let Some(values) = after(line, b"seal ") {
+    } else {
+        take_sealing(taker, text, line)
+    }
+}
+
+/// Takes the operation of a line of at most 128 bytes by the table from `seal` on, or the refusal of the line.
+///
+/// Requires: 193 bytes of the page are free.
+#[inline(always)]
+fn take_sealing<const N: usize, T: Taker<N>>(
+    taker: &mut T,
+    text: &mut Page<N>,
+    line: &[u8],
+) -> T::Out
+    requires { length text.old + 193 ≤ N }
+    ensures { (command : Result OpSpec RefusalSpec) → command ≡ command_by (drop 10 commands) (words_of line.now)
+        → T.Taken taker.old command result text.old text.new taker.new }
+{
+    if let Some(values) = after(line, b"seal ") {
         take_of_slot(taker, text, values, Op::Seal)
     } else if let Some(values) = after(line, b"unseal ") {
         take_of_slot(taker, text, values, Op::Unseal)
