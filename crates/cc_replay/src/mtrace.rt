@@ -1,7 +1,8 @@
 //! The lines that `mtrace` of the GNU C library writes.
-ghost use Rattle.std.specs.Prelude.{◌≡◌, take};
-ghost use Rattle.cc_replay.specs.Mtrace.{after_caller, called_in, mtrace_in, mtrace_operation, spaced_in};
-ghost use Rattle.cc_replay.specs.Reports.{object_in, pointer_in};
+ghost use Rattle.std.specs.Prelude.{◌≡◌, ◌==◌, if◌then◌else◌, take};
+ghost use Rattle.cc_replay.specs.Mtrace.{after_caller, called_in, mtrace_in, mtrace_operation, signed_in, spaced_in};
+ghost use Rattle.cc_replay.specs.Reports.{allocation, free, object_in, pointer_in};
+ghost use Rattle.cc_replay.specs.declared.report.LineReport.TheVariants.{Failure, From, To};
 
 use crate::cutting::cut;
 use crate::report::{LineReport, allocation, free};
@@ -58,23 +59,53 @@ fn read_spaced(text: &[u8]) -> Result<LineReport, Refusal>
     }
 }
 
-/// Parses an operation.
+/// Parses an operation: a sign, a space and its values.
 fn read_operation(text: &[u8]) -> Result<LineReport, Refusal>
     ensures { result ≡ mtrace_operation text.now }
 {
     match text {
-        [b'+', b' ', values @ ..] => {
-            read_object(values).map(|(pointer, size)| allocation(pointer, size))
-        }
-        [b'-', b' ', values @ ..] => read_pointer(values).map(free),
-        [b'<', b' ', values @ ..] => read_pointer(values).map(|pointer| LineReport::From {
-            pointer,
-        }),
-        [b'>', b' ', values @ ..] => {
-            read_object(values).map(|(pointer, size)| LineReport::To { pointer, size })
-        }
-        [b'!', b' ', values @ ..] => read_object(values).map(|_| LineReport::Failure),
+        [sign, b' ', values @ ..] => read_signed(*sign, values),
         _ => Err(Refusal::Syntax),
+    }
+}
+
+/// Parses the values after a sign.
+fn read_signed(sign: u8, values: &[u8]) -> Result<LineReport, Refusal>
+    ensures { result ≡ signed_in sign values.now }
+{
+    match sign {
+        b'+' | b'>' | b'!' => {
+            let (pointer, size) = read_object(values)?;
+            Ok(object_report(sign, pointer, size))
+        }
+        b'-' | b'<' => {
+            let pointer = read_pointer(values)?;
+            Ok(pointer_report(sign, pointer))
+        }
+        _ => Err(Refusal::Syntax),
+    }
+}
+
+/// Returns the report of `+`, `>` or `!` and an object.
+fn object_report(sign: u8, pointer: u64, size: u64) -> LineReport
+    ensures { result ≡ (if sign == 43 then allocation pointer size
+        else if sign == 62 then To pointer size
+        else Failure) }
+{
+    match sign {
+        b'+' => allocation(pointer, size),
+        b'>' => LineReport::To { pointer, size },
+        _ => LineReport::Failure,
+    }
+}
+
+/// Returns the report of `-` or `<` and a pointer.
+fn pointer_report(sign: u8, pointer: u64) -> LineReport
+    ensures { result ≡ if sign == 45 then free pointer else From pointer }
+{
+    match sign {
+        b'-' => free(pointer),
+        _ => LineReport::From { pointer },
     }
 }
 
