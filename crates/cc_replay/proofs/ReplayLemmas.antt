@@ -29,33 +29,36 @@ state_of run reading counts pending time progress is_sampled = record {
   is_sampled = is_sampled;
 }
 
-pub event_taken : (old : ReplayState) (event : Event) (outcome : Outcome) (run : RunState) (counts : Counts) (time : ℕ) (progress : Progress)
-    (sampled : Bool) (out out_now : List ℕ) (refused : Bool)
+-- the state after an event is that before it with its run and its counts, and its sample is appended if it is due
+pub event_taken : (old : ReplayState) (event : Event) (outcome : Outcome) (run : RunState) (sweeps : ℕ) (new : ReplayState) (out out_now : List ℕ)
+    (refused : Bool)
     → IsRunEvent old.run event outcome run
-    → counts ≡ with_outcome outcome (with_counted_event event old.counts)
-    → time ≡ time_after event old.time
+    → sweeps ≡ old.run.heap.totals.sweeps
+    → new ≡ record old {
+      run = run;
+      counts = with_outcome outcome (with_counted_event event old.counts);
+      time = time_after event old.time;
+      progress = progress_after old.reading (is_refused outcome);
+      is_sampled = is_due old.reading (with_counted_event event old.counts).events sweeps run.heap.totals.sweeps;
+    }
     → refused ≡ is_refused outcome
-    → progress ≡ progress_after old.reading refused
-    → sampled ≡ is_due old.reading counts.events old.run.heap.totals.sweeps run.heap.totals.sweeps
-    → out_now ≡ out ++ sample_text sampled (reason_of old.reading counts.events) (state_of run old.reading counts old.pending time progress sampled)
-    → AppendsEvent replaying old event out out_now refused (state_of run old.reading counts old.pending time progress sampled)
-event_taken old event outcome run counts time progress sampled out out_now refused is_event counts_is time_is refused_is progress_is sampled_is out_is =
+    → out_now ≡ out ++ sample_text new.is_sampled (reason_of new.reading new.counts.events) new
+    → AppendsEvent replaying old event out out_now refused new
+event_taken old event outcome run sweeps new out out_now refused is_event sweeps_is is_new refused_is out_is =
     record {
-      text = sample_text sampled (reason_of old.reading counts.events) (state_of run old.reading counts old.pending time progress sampled);
+      text = sample_text new.is_sampled (reason_of new.reading new.counts.events) new;
       out_is = out_is;
       takes = inl (record {
         outcome = outcome;
         run = run;
         is_event = is_event;
-        is_new = λ i. record {
+        is_new = is_new ∙ ap (λ (n : ℕ). record old {
           run = run;
-          reading = old.reading;
-          counts = counts_is i;
-          pending = old.pending;
-          time = time_is i;
-          progress = (progress_is ∙ ap (progress_after old.reading) refused_is) i;
-          is_sampled = (sampled_is ∙ ap (λ (c : Counts). is_due old.reading c.events old.run.heap.totals.sweeps run.heap.totals.sweeps) counts_is) i;
-        };
+          counts = with_outcome outcome (with_counted_event event old.counts);
+          time = time_after event old.time;
+          progress = progress_after old.reading (is_refused outcome);
+          is_sampled = is_due old.reading (with_counted_event event old.counts).events n run.heap.totals.sweeps;
+        }) sweeps_is;
         error_is = refused_is;
         text_is = refl;
       });

@@ -5,19 +5,21 @@ ghost use Rattle.cc_io.specs.Answers.{AnswersInto};
 ghost use Rattle.cc_io.specs.Correct.{Pumps};
 ghost use Rattle.cc_io.specs.Frames.{lines};
 ghost use Rattle.cc_io.specs.Devices.{IsOutcome, SendsBytes};
-ghost use Rattle.cc_replay.specs.Reading.{is_over};
+ghost use Rattle.cc_replay.specs.Counts.{with_counted_event, with_outcome};
+ghost use Rattle.cc_replay.specs.Reading.{is_due, is_over, progress_after, reason_of};
 ghost use Rattle.cc_heap.specs.Alignment.{HasAlignment};
 ghost use Rattle.cc_heap.specs.Lost.{empty_run};
+ghost use Rattle.cc_heap.specs.Outcomes.{is_refused};
 ghost use Rattle.cc_heap.specs.Peaks.{without_peaks};
 ghost use Rattle.cc_replay.specs.Replay.{TakesLine, TakesRest, begun, figures_of, last_sample, most_sample};
-ghost use Rattle.cc_replay.specs.Replay.{replaying, series_header, time_after};
+ghost use Rattle.cc_replay.specs.Replay.{replaying, sample_text, series_header, time_after};
 ghost use Rattle.cc_replay.specs.Taking.{AppendsEntry, AppendsEvent, RefusesEntry, TakesUnwritten, next_entry};
 
 use crate::counts::Counts;
 use crate::series::{MOST_SAMPLE, push_sample, push_series_header};
 use crate::summary::Figures;
 use crate::{Entry, Progress, Reading, SampleReason, read_entry};
-use cc_heap::{Event, Heap, Run, Settings};
+use cc_heap::{Event, Heap, Outcome, Run, Settings};
 use cc_io::{
     Answerer, IoError, Lines, Page, Pending, Sink, Source, Summary, pump, write_and_flush,
 };
@@ -223,27 +225,42 @@ impl<P: Placer> Replay<P> {
         ensures { AppendsEvent replaying self.old event out.old out.new result self.new }
     {
         let sweeps = self.run.heap().totals().sweeps;
-        let outcome = match self.run.event(event) {
-            Ok(outcome) => outcome,
-            Err(AllocError) => {
-                self.progress = Progress::OutOfMemory;
-                return false;
-            }
+        let Ok(outcome) = self.run.event(event) else {
+            self.progress = Progress::OutOfMemory;
+            return false;
         };
-        let is_refused = outcome.is_refused();
+        self.count(event, outcome, sweeps);
+        self.push_due(out);
+        outcome.is_refused()
+    }
+
+    /// Counts an event that happened after this number of sweeps.
+    fn count(&mut self, event: Event, outcome: Outcome, sweeps: u64)
+        ensures { self.new ≡ record self.old {
+          counts = with_outcome outcome (with_counted_event event self.old.counts);
+          time = time_after event self.old.time;
+          progress = progress_after self.old.reading (is_refused outcome);
+          is_sampled = is_due self.old.reading (with_counted_event event self.old.counts).events sweeps
+              self.old.run.heap.totals.sweeps;
+        } }
+    {
         self.counts = self.counts.with_event(event).with_outcome(outcome);
         self.time = time_after(event, self.time);
-        self.progress = self.reading.progress_after(is_refused);
-        self.is_sampled = self.reading.is_due(
-            self.counts.events,
-            sweeps,
-            self.run.heap().totals().sweeps,
-        );
+        self.progress = self.reading.progress_after(outcome.is_refused());
+        let sweeps_now = self.run.heap().totals().sweeps;
+        self.is_sampled = self.reading.is_due(self.counts.events, sweeps, sweeps_now);
+    }
+
+    /// Appends the sample of the last event, if it is due.
+    fn push_due<const N: usize>(&self, page: &mut Page<N>)
+        requires { length page.old + most_sample ≤ N }
+        ensures { page.new ≡ page.old
+            ++ sample_text self.now.is_sampled (reason_of self.now.reading self.now.counts.events) self.now }
+    {
         if self.is_sampled {
             let reason = self.reading.reason_of(self.counts.events);
-            push_sample(out, reason, self.time, &self.figures());
+            push_sample(page, reason, self.time, &self.figures());
         }
-        is_refused
     }
 }
 
