@@ -178,10 +178,11 @@ class State:
     def __init__(self, regs, flags, memory, pc):
         self.regs, self.flags, self.memory, self.pc = regs, flags, memory, pc
         self.path, self.visited, self.calls, self.returned = [], set(), (), False
+        self.taker = None  # an input that takes the path, as a model of z3, if one is known
 
     def copy(self):
         other = State(dict(self.regs), dict(self.flags), self.memory.copy(), self.pc)
-        other.path, other.visited, other.calls = [*self.path], {*self.visited}, self.calls
+        other.path, other.visited, other.calls, other.taker = [*self.path], {*self.visited}, self.calls, self.taker
         return other
 
 
@@ -309,9 +310,13 @@ class Lifter:
 
     @staticmethod
     def is_possible(solver, state):
+        """Whether an input might take the path of a state: the one that is known to take all but its last condition, or another."""
+        if state.taker is not None and z3.is_true(state.taker.eval(state.path[-1], True)):
+            return True
         solver.push()
         solver.add(*state.path)
         found = solver.check()
+        state.taker = solver.model() if found == z3.sat else None
         solver.pop()
         return found != z3.unsat
 
