@@ -80,13 +80,18 @@ def decode(f, address=None):
     return base, top, e
 
 
+def distance(f):
+    """How far the address is above the window's start, in units of the exponent."""
+    b = z3.If(f.ie == 1, f.b & 0x3FF8, f.b)
+    return z3.LShR(f.address, bits(exponent(f), 63, 0)) - ext(z3.Concat(bits(b, 13, 11), bv(0, 11)), 64) + 0x800
+
+
 def decode_short(f):
-    """The values of decode(), by the lemma short_decode: the base from how far the address is above the window's start, the top from the length."""
+    """The values of decode(), by the lemma short_decode: the base from the distance, the top from the length."""
     e, ie = exponent(f), f.ie == 1
     t, b = z3.If(ie, f.t & 0xFF8, f.t), z3.If(ie, f.b & 0x3FF8, f.b)
     shift, length = bits(e, 63, 0), ext(z3.Concat(f.ie, t - bits(b, 11, 0)), 65)
-    distance = z3.LShR(f.address, shift) - ext(z3.Concat(bits(b, 13, 11), bv(0, 11)), 64) + 0x800
-    base = z3.Concat(bits(distance, 63, 14), b) << shift
+    base = z3.Concat(bits(distance(f), 63, 14), b) << shift
     start = z3.If(z3.UGE(e, CAP_MAX_E - 1), ext(b, 65) << ext(shift, 65), ext(base, 65))
     return base, start + (length << ext(shift, 65)), e
 

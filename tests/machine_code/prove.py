@@ -57,22 +57,30 @@ def never(term, where, cases=(("", (), None),)):
         refute(z3.simplify(z3.substitute(one, *places) if places else one), f"{where}{name and f' at {name}'}", places)
 
 
-def following(asked, cases):
+def at_once(change, terms):
+    """Returns the conditions that a change makes of these. It is made once for all, since they share most of their parts."""
+    all_of = z3.Function(f"all_{len(terms)}", *[z3.BoolSort()] * (len(terms) + 1))
+    return change(all_of(*terms)).children()
+
+
+def following(asked, cases, names=()):
     """Returns the third of each triple whose second, a fact, holds wherever all of its first do: of all that are left z3 is asked together, and
-    those that are false for the input that it finds are dropped."""
+    those that are false for the input that it finds are dropped. In place of a term that has a name, a fact holds for every value."""
     left = [(z3.And(*own, z3.Not(fact)), what) for own, fact, what in asked]
-    for case in cases:
+    for _, places, extra in cases:
+        here = lambda term: z3.simplify(z3.substitute(term, *places))
+        named = [(here(term), name) for term, name in names]
+        there = at_once(lambda term: z3.substitute(here(term), *named), [fails for fails, _ in left])
         while left:
-            try:
-                never(z3.Or(*[fails for fails, _ in left]), "", [case])
+            said, found = answer(z3.And(z3.BoolVal(True) if extra is None else here(extra), z3.Or(*there)))
+            if said == z3.unsat:
                 break
-            except NotProved as error:
-                if error.found is None:
-                    raise
-                there = [z3.substitute(fails, *error.places) if error.places else fails for fails, _ in left]
-                kept = [it for it, fails in zip(left, there) if z3.is_false(error.found.eval(fails, True))]
-                assert len(kept) < len(left)
-                left = kept
+            if found is None:
+                raise NotProved("what follows", None)
+            values = found.eval(z3.Concat(bv(0, 1), *map(model.flag_bit, there)), True).as_long()
+            kept = [not values >> n & 1 for n in reversed(range(len(there)))]
+            assert not all(kept)
+            left, there = ([it for it, is_kept in zip(all_, kept) if is_kept] for all_ in (left, there))
     return [what for _, what in left]
 
 
@@ -337,6 +345,7 @@ class Half:
         self.meaning = {"canonical": functions.canonical(f), "in_bounds": functions.in_bounds(f), "from_base": z3.UGE(f.address, self.base)}
         self.facts = {it: z3.Bool(f"{name}_{it}") for it in self.meaning}
         self.base_is, self.top_is = z3.BitVec(f"{name}_base", 64), z3.BitVec(f"{name}_top", 65)
+        self.hidden = [(model.distance(f), z3.BitVec(f"{name}_distance", 64))]
 
     def owns(self, term):
         return bool(variables(term)) and variables(term) <= self.names
@@ -404,7 +413,8 @@ def two_words(name, ends, wanted):
         never(z3.And(half.meaning["canonical"], z3.UGT(half.top, most)), "a canonical word that ends above 2^64", half.cases)
         rows.append([([it for it in path if half.owns(it)], asked(half, path, fields)) for path, fields in ends])
         different = {key(own, fact): (own, fact) for own, about in rows[-1] for _, fact, _ in about}
-        held |= {*following([(*it, number) for number, it in different.items()], half.cases)}
+        # the last cases have the shortest terms, and drop most of what does not hold
+        held |= {*following([(*it, number) for number, it in different.items()], half.cases[::-1], half.hidden)}
     for (path, fields), *row in zip(ends, *rows):
         facts, places, taken = [z3.Implies(half.facts["canonical"], z3.ULE(half.top_is, most)) for half in halves], [], set()
         for own, about in row:
