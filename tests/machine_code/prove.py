@@ -99,7 +99,8 @@ def word_cases(high):
 
 
 def length_cases():
-    """Those of a length; and for of_request() those that are one number or rare, and the others, in which length - 1 has a name too."""
+    """Those of a length; and for of_request() three kinds: of rare lengths, of powers of two, and the others, in which length - 1 has a name
+    too."""
 
     def place(n):
         return [(LENGTH_HIGH, bv(0, 64)), (LENGTH_LOW, wide(z3.Concat(bv(1, 1), z3.BitVec("length_rest", n)), 64))]
@@ -112,12 +113,12 @@ def length_cases():
     ends.append(("length<2^12", short, None))
     powers = [(f"length=2^{n}", [(LENGTH_HIGH, bv(0, 64)), (LENGTH_LOW, bv(1 << n, 64))], None) for n in PLACES]
     more = [(f"length>2^{n}", above(n), LENGTH_LOW & (LENGTH_LOW - 1) != 0) for n in PLACES]
-    return [*ends, *((f"length>=2^{n}", place(n), None) for n in PLACES)], [*ends, *powers], more
+    return [*ends, *((f"length>=2^{n}", place(n), None) for n in PLACES)], ends, powers, more
 
 
 PLACES = range(63, 11, -1)
-PLAIN, RARE, MORE = length_cases()
-CASES = {"word": word_cases(HIGH), "other": word_cases(OTHER_HIGH), "length": PLAIN, "request": RARE + MORE}
+PLAIN, RARE, POWERS, MORE = length_cases()
+CASES = {"word": word_cases(HIGH), "other": word_cases(OTHER_HIGH), "length": PLAIN, "request": RARE + POWERS + MORE}
 
 
 def apart(places):
@@ -242,44 +243,43 @@ def conditions(term):
 
 
 def given(case, *more):
-    """Returns one of the cases of MORE in which also each name equals its term, and more holds."""
+    """Returns a case in which also each name equals its term, and more holds."""
     name, places, extra = case
     plain, named = apart(places)
-    return name, places, z3.And(extra, *more, *[z3.substitute(term, *plain) == it for term, it in named])
+    return name, places, z3.And(z3.BoolVal(True) if extra is None else extra, *more, *[z3.substitute(term, *plain) == it for term, it in named])
 
 
 def of_request(code, wanted, base):
     """Proves the terms of the code equal to the wanted ones, if they depend on a request of bounds at that base.
-    In most cases two facts come first: whether the request ends at 2^64 or below, and whether its exponent grows. Each is a constant then,
-    and so is a condition of the code that is proved to be one of them. What is left has hardly a shift by a variable. It is proved for
-    every end of the request, with end - length for the base."""
+    In most cases two facts come first: whether the request ends at 2^64 or below, and whether its exponent grows, which that of a power of
+    two never does. Each is a constant then, and so is a condition of the code that is proved to be one of them. What is left has hardly a
+    shift by a variable. It is proved for every end of the request, with end - length for the base."""
     g, differs = model.Granted(base, LENGTH), z3.Or(*[code[it] != wanted[it] for it in wanted])
     never(differs, "the result", RARE)
+    never(z3.And(g.in_range, g.grows), "a power of two that grows", POWERS)
     end, carry = z3.BitVec("request_end", 64), z3.BitVec("request_carry", 1)
     names = [(model.ext(base) + bits(LENGTH, model.W - 1, 0), wide(z3.Concat(carry, end), model.W)), (base, end - LENGTH_LOW)]
     is_carried = (carry == 1) == z3.ULT(end, LENGTH_LOW)
 
-    def facts(found, case):
-        """Returns those conditions that are one of the facts in a case, or its opposite."""
-        here = []
-        for one in needs:
-            equal = [([], it == (fact if is_so else z3.Not(fact)), (it, fact, is_so)) for it, fact, is_so in found if fact.eq(one)]
-            here += following(equal, [given(case, *needs[one])])
-        return here
+    def facts(found, case, fact, *needed):
+        """Returns those conditions that are a fact in a case, or its opposite."""
+        return following([([], it == (fact if is_so else z3.Not(fact)), (it, is_so)) for it, is_so in found], [given(case, *needed)])
 
-    needs, combinations = {g.in_range: [], g.grows: [g.in_range]}, [[g.in_range, g.grows], [g.in_range], []]
     about = [it for it in conditions(z3.Concat(*code.values())) if {str(base), "length_low"} <= variables(it)]
-    found = facts([(it, fact, is_so) for it in about for fact in needs for is_so in (True, False)], MORE[len(MORE) // 2])
-    for case in MORE:
-        here = facts(found, case)
-        for holds in combinations:
-            constants = [(it, z3.BoolVal((fact in holds) == is_so)) for it, fact, is_so in here if {*needs[fact]} <= {*holds}]
-            constants += [(fact, z3.BoolVal(fact in holds)) for fact in needs if {*needs[fact]} <= {*holds}]
+    about = [(it, is_so) for it in about for is_so in (True, False)]
+    ends_there = facts(about, ("", (), None), g.in_range)
+    for cases, is_growing in (POWERS, (False,)), (MORE, (True, False)):
+        found = facts(about, cases[len(cases) // 2], g.grows, g.in_range)
+        for case in cases:
+            here = facts(found, case, g.grows, g.in_range)
+            inside = [(it, z3.BoolVal(is_so)) for it, is_so in ends_there] + [(g.in_range, z3.BoolVal(True))]
+            combinations = [inside + [(it, z3.BoolVal(grows == is_so)) for it, is_so in here] + [(g.grows, z3.BoolVal(grows))] for grows in is_growing]
+            combinations.append([(it, z3.Not(holds)) for it, holds in inside])
             try:
-                never(z3.simplify(z3.substitute(z3.substitute(differs, *constants), *names)), "the result", [given(case, is_carried)])
+                for constants in combinations:
+                    never(z3.simplify(z3.substitute(z3.substitute(differs, *constants), *names)), "the result", [given(case, is_carried)])
             except NotProved:
                 never(differs, "the result", [given(case)])
-                break
 
 
 _variables = {}
@@ -331,7 +331,7 @@ def bounded(name, ends, wanted):
     others, ends = ([it for it in ends if (rough(it[1]["refusal"]).as_long() == 0) == is_given] for is_given in (False, True))
     never(z3.Or(*[fields[it] != 0 for _, fields in others for it in ("high", "low")]), "no word")
     shared = [it for it in ends[0][0] if all(any(it.eq(other) for other in path) for path, _ in ends)]
-    never(z3.And(g.in_range, *filter(is_light, shared), differing(ends, needed)), "the result", [*RARE, *map(given, MORE)])
+    never(z3.And(g.in_range, *filter(is_light, shared), differing(ends, needed)), "the result", [*RARE, *POWERS, *map(given, MORE)])
 
 
 class Half:
