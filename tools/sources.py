@@ -28,7 +28,7 @@ def one_line(text):
 
 def depth_of(line):
     line = re.sub(rf"{QUOTES}|//.*", "", line)
-    return sum((it in "{([") - (it in "})]") for it in line)
+    return sum(map(line.count, "{([")) - sum(map(line.count, "})]"))
 
 
 def imports_of(line):
