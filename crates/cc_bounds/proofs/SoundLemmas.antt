@@ -1,14 +1,14 @@
 -- Sound spans: what a request is granted is one, of the same exponent.
-use Rattle.std.proofs.Common.{subst, ◌≡◌, ℕ, ◌+◌, ◌-◌, ◌*◌, ◌<◌, ◌≤◌, ◌/◌, ◌^◌, refl, sym, ◌∙◌, ap, arith, inl, inr}
+use Rattle.std.proofs.Common.{subst, ◌≡◌, ◌==◌, ◌&&◌, ◌↔◌, Bool, true, false, IsTrue, ℕ, ◌+◌, ◌-◌, ◌*◌, ◌<◌, ◌≤◌, ◌/◌, ◌^◌, refl, sym, ◌∙◌, ap, arith, inl, inr}
 use Rattle.std.specs.Int.{div_ceil}
 use Rattle.std.proofs.Math.Nat.{mul-le-mul_right, div-mul-le_self, le_of_mul-le-mul_right, lt-div-mul-add}
 use Rattle.std.proofs.lemmas.Nat.{pow_pos, pow-add, shl-shr}
-use Rattle.std.proofs.lemmas.Bool.{cases_lt}
+use Rattle.std.proofs.lemmas.Bool.{cases_lt, eqb-false, eqb-true, true≢false}
 use Rattle.cc_bounds.specs.declared.span.Span.{Span}
 use Rattle.cc_bounds.specs.Span.{IsSpan, length_of}
 use Rattle.cc_bounds.specs.Granule.{IsCoarseEnough, IsGranule, IsExponent, rounded_to, IsGranted, IsSound}
 use Rattle.cc_bounds.proofs.GranuleLemmas.{le-div_ceil, div_ceil-lt, div_ceil-le, div_ceil-multiple, granule_count-within, granule_count-covered, IsLeastExponent, least_same, least-fits}
-use Rattle.cc_bounds.proofs.GranuleLemmas.{least-many, pow-order, granule-least, least-granule, exponent-least, least-exponent}
+use Rattle.cc_bounds.proofs.GranuleLemmas.{granule_same, least-many, pow-order, granule-least, least-granule, exponent-least, least-exponent}
 
 -- ---- rounding
 
@@ -198,3 +198,29 @@ granted-sound request granted span h =
       as_short = λ s. s;
       exponent = λ e is. is;
     }
+
+-- A request is exact if and only if it equals the span that it is granted.
+equals_itself : (n : ℕ) → (n == n) ≡ true
+equals_itself n = by (n == n) refl where
+  by : (same : Bool) → (n == n) ≡ same → same ≡ true
+  by true is = refl
+  by false is = absurd (eqb-false n n is refl)
+
+equal_ends : (one other : Span) (base top : Bool) → (one.base == other.base) ≡ base → (one.top == other.top) ≡ top → (base && top) ≡ true → one ≡ other
+equal_ends one other true true base top is = same_span one other (eqb-true one.base other.base base) (eqb-true one.top other.top top)
+equal_ends one other true false base top is = absurd (true≢false (sym is))
+equal_ends one other false top' base top is = absurd (true≢false (sym is))
+
+pub exact_by_power : (request granted : Span) (granule : ℕ) (exact : Bool) → IsGranule request granule → granted ≡ rounded_to granule request
+    → exact ≡ (granted.base == request.base && granted.top == request.top) → IsTrue exact ↔ IsSound request
+exact_by_power request granted granule exact is_granule is_rounded exact_is = (
+  λ yes. record {
+    granule = granule;
+    is_granule = is_granule;
+    is_rounded = sym (equal_ends granted request _ _ refl refl (sym exact_is ∙ yes)) ∙ is_rounded;
+  },
+  λ sound.
+      let same : granted ≡ request =
+      is_rounded ∙ ap (λ (n : ℕ). rounded_to n request) (granule_same request granule sound.granule is_granule sound.is_granule) ∙ sym sound.is_rounded in
+      exact_is ∙ ap (λ (s : Span). s.base == request.base && s.top == request.top) same ∙ rw (equals_itself request.base, equals_itself request.top) refl,
+)

@@ -1,6 +1,7 @@
-use Rattle.std.proofs.Common.{◌^◌}
+use Rattle.std.proofs.Common.{◌^◌, ◌∙◌, ap}
+use Rattle.cc_bounds.specs.Encoding.{Encoding}
 use Rattle.cc_bounds.proofs.EncodingLemmas.{granted-power}
-use Rattle.cc_bounds.proofs.SoundLemmas.{granted-sound}
+use Rattle.cc_bounds.proofs.SoundLemmas.{exact_by_power, granted-sound}
 use Rattle.cc_bounds.proofs.encoding.encode.Goals as goal
 
 pub encoded-requires : goal.encoded-requires
@@ -15,3 +16,8 @@ encoded-requires c =
     }) in
     let (small, large) = granted-power request c.rounded-granted.result power grant is.granule is.small is.large in
     record { is_span = grant.is_span; sound = grant.sound; small = small; large = large; fits = is.fits }
+
+pub returns-clause-exact : goal.returns-clause-exact
+returns-clause-exact c =
+    exact_by_power c.args.request.now c.rounded-granted.result (2 ^ c.granule_power-power.result) c.encoded.result.exact
+    c.granule_power-power.ensures.granule c.rounded-granted.ensures (ap (λ (e : Encoding). e.exact) c.encoded.ensures ∙ c.eq.ensures)
