@@ -74,21 +74,15 @@ announce() {
 }
 
 # Copies the sources of all crates, so that a change during the build reaches no crate.
-copy_sources() {
-  local name it
-  mkdir -p -- "$apart/crates" "$libraries" "$apart/tmp" || return
-  cp -- "$top/crates.txt" "$apart/" || return
+copy_sources() (
+  mkdir -p -- "$libraries" "$apart/tmp" && cd -- "$top" || return
+  sources=()
   for name in "${order[@]}"; do
-    mkdir -- "$apart/crates/$name" || return
-    for it in "$top/crates/$name"/*; do
-      case ${it##*/} in
-        out) ;;
-        *) cp -R --no-preserve=mode -- "$it" "$apart/crates/$name/" || return ;;
-      esac
-    done
+    for it in "crates/$name"/*; do [[ $it == */out ]] || sources+=("$it"); done
   done
+  cp -R --no-preserve=mode --parents -- crates.txt "${sources[@]}" "$apart/" || return
   [[ -z $(find "$apart/crates" ! -type d ! -type f -print -quit) ]]
-}
+)
 
 # Runs a function in the background, as a separate group of processes, which a signal to the build ends as a whole:  begin FUNCTION ARG..
 begin() {
@@ -178,7 +172,7 @@ find_store() {
 
 # Prints the checksums of all files of the library in this directory.
 list_kept() {
-  find rlib ! -type d -print0 | xargs -0 sha256sum -- | LC_ALL=C sort
+  find rlib ! -type d -exec sha256sum -- {} + | LC_ALL=C sort
 }
 
 # Links the files of a directory into a new one or, if that is on another filesystem, copies them. The attempt to link them leaves the
